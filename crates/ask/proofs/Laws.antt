@@ -1,0 +1,2 @@
+-- What is known of a question's numbers.
+pub mod Numeral

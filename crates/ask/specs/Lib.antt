@@ -1,0 +1,2 @@
+-- What the line tool reads as a number.
+pub mod Numeral

@@ -1,0 +1,127 @@
+// One line of input, byte by byte: a question's word and arguments, a line that is copied, or one of no known form.
+//
+// A line can be of any length. Only the word that is being read stands in `token`, and a question's doubles stand in `list`.
+use crate::numeral;
+use crate::numeral::Pattern;
+use crate::part::first;
+use crate::word;
+use crate::word::Word;
+
+// A question so far: its word, how many arguments were taken, and how many bytes of the next one stand in the token.
+pub struct Question {
+    pub word: Word,
+    pub taken: usize,
+    pub len: usize,
+}
+
+pub enum Line {
+    // Nothing of it was read.
+    Empty,
+    // It begins with '#', and is copied as it comes.
+    Comment,
+    // It is of no form that is known; what is left of it is skipped.
+    Unclear,
+    // The first word, with this many bytes in the token.
+    Naming(usize),
+    Asking(Question),
+}
+
+// The line with one byte more, which is no line end.
+pub fn next(line: Line, b: u8, token: &mut [u8], list: &mut [f64]) -> Line {
+    match line {
+        Line::Empty => {
+            if b == b'#' {
+                return Line::Comment;
+            }
+            naming(0, b, token)
+        }
+        Line::Comment => Line::Comment,
+        Line::Unclear => Line::Unclear,
+        Line::Naming(len) => {
+            if b == b' ' {
+                return named(token, len);
+            }
+            naming(len, b, token)
+        }
+        Line::Asking(q) => {
+            if b == b' ' {
+                return taken(q, token, list);
+            }
+            asking(q, b, token)
+        }
+    }
+}
+
+// A whole line: its last word is whole too.
+pub fn ended(line: Line, token: &[u8], list: &mut [f64]) -> Line {
+    match line {
+        Line::Empty => Line::Empty,
+        Line::Comment => Line::Comment,
+        Line::Unclear => Line::Unclear,
+        Line::Naming(len) => named(token, len),
+        Line::Asking(q) => taken(q, token, list),
+    }
+}
+
+// One byte more of the first word.
+fn naming(len: usize, b: u8, token: &mut [u8]) -> Line {
+    if token.len() <= len {
+        return Line::Unclear;
+    }
+    token[len] = b;
+    Line::Naming(len + 1)
+}
+
+// The first word is whole.
+fn named(token: &[u8], len: usize) -> Line {
+    match word::word_of(first(token, len)) {
+        Word::Apart => Line::Asking(Question {
+            word: Word::Apart,
+            taken: 0,
+            len: 0,
+        }),
+        Word::None => Line::Unclear,
+    }
+}
+
+// One byte more of an argument.
+fn asking(q: Question, b: u8, token: &mut [u8]) -> Line {
+    let len = q.len;
+    if token.len() <= len {
+        return Line::Unclear;
+    }
+    token[len] = b;
+    let word = q.word;
+    Line::Asking(Question {
+        word: word,
+        taken: q.taken,
+        len: len + 1,
+    })
+}
+
+// An argument is whole: a double, which joins the list.
+fn taken(q: Question, token: &[u8], list: &mut [f64]) -> Line {
+    let len = q.len;
+    let Pattern::Bits(bits) = numeral::pattern_of(first(token, len)) else {
+        return Line::Unclear;
+    };
+    let word = q.word;
+    Line::Asking(Question {
+        word: word,
+        taken: joined(q.taken, double::from_pattern(bits), list),
+        len: 0,
+    })
+}
+
+// How many doubles the list has with x after the first `count`.
+// A full list counts one less, so that it stays odd or even as the question's is.
+fn joined(count: usize, x: f64, list: &mut [f64]) -> usize {
+    if count < list.len() {
+        list[count] = x;
+        return count + 1;
+    }
+    if 0 < count {
+        return count - 1;
+    }
+    0
+}

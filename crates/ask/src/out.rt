@@ -1,0 +1,38 @@
+// The answers on their way out: `out` holds the bytes that are not written yet, `len` of them, and each function answers the new `len`.
+use crate::part::first;
+use libc::STDOUT_FILENO;
+
+// Writes what waits. Nothing waits any more, also where writing failed.
+pub fn flush(out: &[u8], len: usize) -> bool {
+    io::write_all(STDOUT_FILENO, first(out, len))
+}
+
+// One byte more; what waits is written first where it leaves no room.
+pub fn put(out: &mut [u8], len: usize, b: u8) -> usize {
+    if len < out.len() {
+        out[len] = b;
+        return len + 1;
+    }
+    flush(out, len);
+    if out.len() == 0 {
+        return 0;
+    }
+    out[0] = b;
+    1
+}
+
+pub fn put_text(out: &mut [u8], len: usize, text: &[u8]) -> usize {
+    let mut n = len;
+    let mut i: usize = 0;
+    while i < text.len() {
+        n = put(out, n, text[i]);
+        i += 1;
+    }
+    n
+}
+
+pub fn put_decimal(out: &mut [u8], len: usize, value: u64) -> usize {
+    let mut digits = [0u8; 20];
+    let k = io::decimal(value, &mut digits);
+    put_text(out, len, &digits[..k])
+}

@@ -1,0 +1,12 @@
+-- A refusal is known by its number and its place: what the uniqueness of every public promise rests on. Assumes nothing.
+use mathlib.Core.Path.{_≡_, ap₂}
+use Prim.Native.Nat.{ℕ}
+use Rattle.double.specs.Outcome.{Outcome, refuses}
+use Rattle.double.specs.declared.refusal.Refusal.{Refusal}
+
+pub refuses-once : {A : Type 0} (r q : Refusal)
+    → _≡_ {A = Outcome A} (refuses (r .number) (r .place)) (refuses (q .number) (q .place)) → r ≡ q
+refuses-once r q e =
+    let n : r .number ≡ q .number = cc in
+    let p : r .place ≡ q .place = cc in
+    ap₂ (λ (a b : ℕ). let x : Refusal = record { number = a; place = b } in x) n p

@@ -1,0 +1,38 @@
+-- What a double is worth, by 01's section Numbers. A double is a `Float` of `lib.Ieee` that fits `binary64`: `fin s m e` is finite,
+-- m * 2 ^ e, negative where s is true; `inf s` is infinite; `nan` is not a number. Some definitions take the format, as their laws do.
+use Prim.Native.Nat.{ℕ, suc, _*_, _/_, _^_}
+use mathlib.Core.Bool.{Bool, false, true, cond}
+use lib.IntN.{ℤ, pos, negsuc, negℤ}
+use lib.Ieee.{Float, nan, inf, fin, Format, binary64, low, round}
+use lib.Ieee.Positive.{num, den}
+
+-- the sign bit: set for the negative; a zero has either. (A NaN's is not kept.)
+abbrev pub signBit : Float → Bool
+signBit nan = false
+signBit (inf s) = s
+signBit (fin s m e) = s
+
+-- "A finite double is a whole number times 2^-1074": the magnitude num / den as that number. In binary64 `low` is 1074.
+abbrev pub mag : Format → Float → ℕ
+mag f x = num x * 2 ^ low f / den x
+
+-- the same number as a difference `plus` - `minus` of which one is 0
+abbrev pub plus : Format → Float → ℕ
+plus f x = cond (signBit x) 0 (mag f x)
+
+abbrev pub minus : Format → Float → ℕ
+minus f x = cond (signBit x) (mag f x) 0
+
+-- "Exact sums are stated in those units." Both zeros are worth 0.
+unfoldable pub worth : Float → ℤ
+worth x = cond (signBit x) (negℤ (pos (mag binary64 x))) (pos (mag binary64 x))
+
+-- n units, rounded to the format, with a sign
+unfoldable pub ofUnits : Format → Bool → ℕ → Float
+ofUnits f s n = round f s n (2 ^ low f)
+
+-- the double of a given worth, +0 for 0; where no double has it, the nearest
+unfoldable pub doubleOf : ℤ → Float
+unfolding ofUnits
+doubleOf (pos n) = ofUnits binary64 false n
+doubleOf (negsuc n) = ofUnits binary64 true (suc n)

@@ -1,0 +1,18 @@
+// The double of a bit pattern.
+ghost use mathlib.Core.Path.{_≡_};
+ghost use lib.Ieee.{binary64, ofBits};
+
+// The patterns above infinity's, the sign left out, are the NaNs'.
+const INFINITY: u64 = 0x7FF0_0000_0000_0000;
+
+const SIGN: u64 = 0x8000_0000_0000_0000;
+
+// The double whose bits these are. Every NaN's pattern gives the one NaN: a payload is not kept.
+pub fn from_pattern(bits: u64) -> f64
+    ensures { λ r. ⌜ r ≡ ofBits binary64 bits ⌝ }
+{
+    if INFINITY < bits % SIGN {
+        return 0.0 / 0.0;
+    }
+    f64::from_bits(bits)
+}

@@ -1,0 +1,2 @@
+-- The laws of accepted coordinates.
+pub mod Accepted

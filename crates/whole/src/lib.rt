@@ -1,0 +1,1 @@
+// Laws of whole numbers: definitions in specs/, laws in proofs/Laws/. No function.

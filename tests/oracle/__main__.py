@@ -1,0 +1,45 @@
+"""The second program: an independent reading of 01 in big integers, over the lines of ask.
+
+python3 tests/oracle reads questions from standard input and writes an answer line for each. This
+file has the lines and the table of known words; each section of 01 is a file of its own, whose
+functions take the words after the first and give the answer. They read all their words before
+they refuse anything, since a line that is not of a known form is unclear whatever it holds.
+
+What the protocol leaves to its words, as read here:
+- only a line feed ends a line, and every answer has one, also that to a last line without it;
+- an input that ends with a line feed has no empty line after it, and an empty input has no line;
+- '#' counts only as the first byte, and such a line may hold any bytes: it is copied whole;
+- a space at the start or the end, or a second one, makes an empty word, which no form has; a line
+  of spaces alone is not empty;
+- the first word is in lower case, as written; tabs, NULs and carriage returns part no words.
+"""
+
+import sys
+
+import doubles
+from words import Refused, Unclear
+
+ANSWERS = {
+    b"apart": doubles.answer_apart,
+}
+
+
+def answer(line):
+    """The answer to one line, both without a line end."""
+    if not line or line.startswith(b"#"):
+        return line
+    first, *others = line.split(b" ")
+    if first not in ANSWERS:
+        return b"unclear"
+    try:
+        return ANSWERS[first](others)
+    except Unclear:
+        return b"unclear"
+    except Refused as refusal:
+        return b"refused %d %d" % (refusal.number, refusal.place)
+
+
+for raw in sys.stdin.buffer:
+    line = raw[:-1] if raw.endswith(b"\n") else raw
+    sys.stdout.buffer.write(answer(line) + b"\n")
+    sys.stdout.buffer.flush()

@@ -1,0 +1,79 @@
+"""Taking apart, against hand-computed values and against Python's reading of the same pattern."""
+
+import math
+import random
+import struct
+import unittest
+
+from doubles import apart
+from words import Refused
+
+# the number as C and Python spell it in hexadecimal, then sign bit, significand and exponent
+BY_HAND = [
+    ("0x0p0", 0, 0, 0),
+    ("-0x0p0", 1, 0, 0),
+    ("0x1p-1074", 0, 1, 0),  # least subnormal
+    ("-0x1p-1074", 1, 1, 0),
+    ("0x0.fffffffffffffp-1022", 0, 2**52 - 1, 0),  # greatest subnormal
+    ("0x1p-1022", 0, 2**52, 0),  # least normal: 2^52 * 2^-1074
+    ("0x1.0000000000001p-1022", 0, 2**52 + 1, 0),
+    ("0x1p-1021", 0, 2**52, 1),
+    ("0x1p0", 0, 2**52, 1022),  # 1 = 2^52 * 2^(1022 - 1074)
+    ("-0x1p0", 1, 2**52, 1022),
+    ("0x1.fffffffffffffp-1", 0, 2**53 - 1, 1021),
+    ("-0x1.8p1", 1, 3 * 2**51, 1023),  # -3 = -(3 * 2^51) * 2^(1023 - 1074)
+    ("0x1p400", 0, 2**52, 1422),
+    ("0x1p-400", 0, 2**52, 622),
+    ("0x1.fffffffffffffp1023", 0, 2**53 - 1, 2045),  # largest finite
+    ("-0x1.fffffffffffffp1023", 1, 2**53 - 1, 2045),
+]
+
+REFUSED = [
+    0x7FF0000000000000,  # infinities
+    0xFFF0000000000000,
+    0x7FF8000000000000,  # NaNs: quiet, signalling, least and greatest payload
+    0xFFF8000000000000,
+    0x7FF4000000000000,
+    0x7FF0000000000001,
+    0xFFF0000000000001,
+    0x7FFFFFFFFFFFFFFF,
+    0xFFFFFFFFFFFFFFFF,
+]
+
+
+def float_of(pattern):
+    return struct.unpack(">d", struct.pack(">Q", pattern))[0]
+
+
+def pattern_of(number):
+    return struct.unpack(">Q", struct.pack(">d", number))[0]
+
+
+class Apart(unittest.TestCase):
+    def test_values_by_hand(self):
+        for text, *parts in BY_HAND:
+            with self.subTest(text):
+                self.assertEqual(apart(pattern_of(float.fromhex(text))), tuple(parts))
+
+    def test_infinities_and_nans_are_refused(self):
+        for pattern in REFUSED:
+            with self.subTest(hex(pattern)):
+                with self.assertRaises(Refused) as refusal:
+                    apart(pattern)
+                self.assertEqual((refusal.exception.number, refusal.exception.place), (2, 0))
+
+    def test_python_reads_the_same_number(self):
+        seeded = random.Random(754)
+        for field in range(2047):
+            self.check(seeded.getrandbits(1) << 63 | field << 52 | seeded.getrandbits(52))
+
+    def check(self, pattern):
+        number = float_of(pattern)
+        sign, significand, exponent = apart(pattern)
+        numerator, denominator = abs(number).as_integer_ratio()
+        # equal magnitudes, compared as whole numbers of 2^-1074
+        self.assertEqual(numerator << 1074, (significand << exponent) * denominator)
+        self.assertEqual(math.copysign(1, number), 1 - 2 * sign)
+        # of all ways to write the magnitude, the one that the fields have
+        self.assertLess(significand, 2**53)
+        self.assertTrue(exponent == 0 or significand >= 2**52)

@@ -1,0 +1,57 @@
+"""The oracle as a process: which lines are answered, copied or unclear, and when."""
+
+import subprocess
+import sys
+import unittest
+from pathlib import Path
+
+ORACLE = [sys.executable, "-S", str(Path(__file__).resolve().parent.parent / "oracle")]
+
+ONE = b"apart 3ff0000000000000"
+ONE_APART = b"apart 0 4503599627370496 1022"
+
+UNCLEAR = [
+    b"apart", b"apart ", b" ", b" " + ONE, ONE + b" ", b"apart  3ff0000000000000", ONE + b" 3ff0000000000000",
+    ONE + b"\r", b"\r", b"\x00", ONE + b"\x00", b"\xff", b"apart\t3ff0000000000000", b" # comment",
+    b"Apart 3ff0000000000000", b"apart 3ff000000000000", b"apart 03ff0000000000000", b"apart 3ff000000000000g",
+    b"a" * 100_000, b" " * 100_000,
+]
+
+COPIED = [b"", b"#", b"# " + ONE, b"#\r", b"#\x00\x80\xff", b"#" + b"\xff" * 100_000]
+
+ANSWERED = [
+    (ONE, ONE_APART),
+    (b"apart 3FF0000000000000", ONE_APART),
+    (b"apart 7ff0000000000000", b"refused 2 0"),
+    (b"apart fFf8000000000000", b"refused 2 0"),
+]
+
+
+def ask(text):
+    return subprocess.run(ORACLE, input=text, stdout=subprocess.PIPE, check=True).stdout
+
+
+class Frame(unittest.TestCase):
+    def test_each_line_has_its_answer(self):
+        expected = ANSWERED + [(line, line) for line in COPIED] + [(line, b"unclear") for line in UNCLEAR]
+        answers = ask(b"".join(line + b"\n" for line, _ in expected)).split(b"\n")
+        self.assertEqual(answers.pop(), b"")
+        self.assertEqual(len(answers), len(expected))
+        for (line, answer), got in zip(expected, answers):
+            with self.subTest(line[:40]):
+                self.assertEqual(got, answer)
+
+    def test_last_line_without_line_end(self):
+        self.assertEqual(ask(ONE), ONE_APART + b"\n")
+        self.assertEqual(ask(b"\n#"), b"\n#\n")
+
+    def test_no_line_no_answer(self):
+        self.assertEqual(ask(b""), b"")
+
+    def test_answers_before_it_waits(self):
+        with subprocess.Popen(ORACLE, stdin=subprocess.PIPE, stdout=subprocess.PIPE) as oracle:
+            for _ in range(3):
+                oracle.stdin.write(ONE + b"\n")
+                oracle.stdin.flush()
+                self.assertEqual(oracle.stdout.readline(), ONE_APART + b"\n")
+            oracle.stdin.close()
