@@ -11,16 +11,31 @@ What the protocol leaves to its words, as read here:
 - '#' counts only as the first byte, and such a line may hold any bytes: it is copied whole;
 - a space at the start or the end, or a second one, makes an empty word, which no form has; a line
   of spaces alone is not empty;
-- the first word is in lower case, as written; tabs, NULs and carriage returns part no words.
+- the first word is in lower case, as written; tabs, NULs and carriage returns part no words;
+- bytes, like doubles, are read in either case and written in lower case;
+- a zone has the two words of its point at least, and its list of corners may be empty like others;
+- the answer to read has the two doubles of each point, and no more of the room.
 """
 
 import sys
 
 import doubles
+import sides
+import sums
+import tracks
+import zones
+from promises import Broken
 from words import Refused, Unclear
 
 ANSWERS = {
     b"apart": doubles.answer_apart,
+    b"run": sums.answer_run,
+    b"ceiling": sums.answer_ceiling,
+    b"plain": sums.answer_plain,
+    b"side": sides.answer_side,
+    b"zone": zones.answer_zone,
+    b"write": tracks.answer_write,
+    b"read": tracks.answer_read,
 }
 
 
@@ -37,6 +52,8 @@ def answer(line):
         return b"unclear"
     except Refused as refusal:
         return b"refused %d %d" % (refusal.number, refusal.place)
+    except Broken as broken:
+        return b"broken promise: " + str(broken).encode()
 
 
 for raw in sys.stdin.buffer:

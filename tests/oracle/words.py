@@ -32,6 +32,10 @@ def read_double(word):
     return int(word, 16)
 
 
+def read_doubles(words):
+    return [read_double(word) for word in words]
+
+
 def read_count(word):
     """A decimal number below 2^32, with no sign and no leading zero."""
     if not COUNT.fullmatch(word) or int(word) > LARGEST_COUNT:

@@ -1,4 +1,7 @@
-"""Doubles for questions: the patterns where rules change, random patterns, and their spelling."""
+"""Doubles for questions: the patterns where rules change, random ones, and their spelling."""
+
+import math
+import struct
 
 FRACTION_BITS = 52
 SIGN = 1 << 63
@@ -10,6 +13,8 @@ LEAST_COORDINATE = 1023 - 400 << FRACTION_BITS  # 2^-400
 # Each is asked with the patterns next to it. With them come the least and greatest subnormal
 # (after 0, before the least normal), the largest finite and the least NaN (around infinity).
 TURNING_POINTS = (1 << FRACTION_BITS, LEAST_COORDINATE, ONE, LARGEST_COORDINATE, INFINITY)
+
+NOT_FINITE = (INFINITY, SIGN | INFINITY, INFINITY | 1, SIGN - 1, INFINITY | 1 << 51, SIGN | INFINITY | 1 << 51)
 
 
 def notable():
@@ -36,8 +41,43 @@ def any_pattern(random):
     return random.choice((pattern & ~INFINITY, pattern | INFINITY) + 6 * (pattern,))
 
 
+def any_finite(random):
+    """Any finite pattern; one in eight has the exponent field of subnormals."""
+    pattern = any_pattern(random)
+    return pattern if pattern & INFINITY != INFINITY else pattern & ~INFINITY
+
+
+def pattern_of(number):
+    return struct.unpack(">Q", struct.pack(">d", number))[0]
+
+
+def float_of(pattern):
+    return struct.unpack(">d", struct.pack(">Q", pattern))[0]
+
+
+def moved(random, number, most):
+    """A nonzero number moved by at most so many last places."""
+    return float_of(pattern_of(number) + random.randint(-most, most)) if number else number
+
+
+def any_significand(random):
+    """From 1 up to 2: of any bits, of few bits, or next to a power of two."""
+    few = 1 + random.randrange(8) / 8
+    return random.choice((1 + random.getrandbits(52) / 2**52, few, 1.0, 1 + 2**-52, 2 - 2**-52))
+
+
+def any_number(random, least, greatest):
+    """A number of either sign, with a binary exponent in the given range."""
+    return random.choice((-1, 1)) * math.ldexp(any_significand(random), random.randint(least, greatest))
+
+
 def spelled(random, pattern):
     """The 16 digits of a pattern: lower case, upper case, or upper case as far as some digit."""
     digits = b"%016x" % pattern
     turn = random.choice((0, 16, random.randrange(17)))
     return digits[:turn].upper() + digits[turn:]
+
+
+def spelled_list(random, patterns):
+    """The words of a list, each with the space before it."""
+    return b"".join(b" " + spelled(random, pattern) for pattern in patterns)

@@ -5,6 +5,7 @@ A good line after a broken one shows that the tool found where the broken one en
 
 from questions import apart
 from questions.doubles import any_pattern
+from questions.lines import any_bytes, damage
 
 DIGITS = b"3ff0000000000000"
 GOOD = b"apart " + DIGITS
@@ -59,11 +60,6 @@ def questions(random):
         yield shape(random)
 
 
-def any_bytes(random, length):
-    """Any bytes but the one that ends a line."""
-    return random.getrandbits(8 * length).to_bytes(length, "little").replace(b"\n", b"\x00")
-
-
 def long_lines(random, length):
     """Lines of about this length; most begin well, so that only their end tells what they are."""
     return (
@@ -88,11 +84,7 @@ def good(random):
 
 
 def damaged(random):
-    """A good line, with a byte of it replaced, or one put in, or one left out."""
-    line = good(random)
-    at = random.randrange(len(line) + 1)
-    new = random.choice((b"", b" ", b"0", b"\t", b"\r", any_bytes(random, 1)))
-    return line[:at] + new + line[at + random.randrange(2) :]
+    return damage(random, good(random))
 
 
 def miscounted(random):

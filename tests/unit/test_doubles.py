@@ -1,11 +1,13 @@
-"""Taking apart, against hand-computed values and against Python's reading of the same pattern."""
+"""Taking apart and coordinates, against hand-computed values and Python's reading of the same pattern."""
 
 import math
 import random
-import struct
 import unittest
+from fractions import Fraction
 
-from doubles import apart
+import doubles
+from doubles import apart, coordinates, is_coordinate, units
+from floats import any_finite, float_of, pattern_of, patterns_of
 from words import Refused
 
 # the number as C and Python spell it in hexadecimal, then sign bit, significand and exponent
@@ -41,14 +43,6 @@ REFUSED = [
 ]
 
 
-def float_of(pattern):
-    return struct.unpack(">d", struct.pack(">Q", pattern))[0]
-
-
-def pattern_of(number):
-    return struct.unpack(">Q", struct.pack(">d", number))[0]
-
-
 class Apart(unittest.TestCase):
     def test_values_by_hand(self):
         for text, *parts in BY_HAND:
@@ -77,3 +71,34 @@ class Apart(unittest.TestCase):
         # of all ways to write the magnitude, the one that the fields have
         self.assertLess(significand, 2**53)
         self.assertTrue(exponent == 0 or significand >= 2**52)
+
+
+class Units(unittest.TestCase):
+    def test_value_is_pythons_and_leads_back_to_the_pattern(self):
+        seeded = random.Random(754)
+        for number in [5e-324, 2.0**-1022, 1.0, 1.7976931348623157e308] + [any_finite(seeded) for _ in range(5000)]:
+            for signed in (number, -number):
+                value = units(pattern_of(signed))
+                self.assertEqual(Fraction(value, 2**1074), Fraction(signed))
+                self.assertEqual(doubles.pattern_of(value), pattern_of(signed))
+
+    def test_zeros(self):
+        self.assertEqual([units(pattern) for pattern in patterns_of([0.0, -0.0])], [0, 0])
+        self.assertEqual(doubles.pattern_of(0), pattern_of(0.0))
+
+
+class Coordinates(unittest.TestCase):
+    def test_ends_of_the_range(self):
+        low, high = pattern_of(2.0**-400), pattern_of(2.0**400)
+        for pattern, accepted in (
+            (low, True), (low - 1, False), (low + 1, True), (high, True), (high + 1, False), (high - 1, True),
+            (0, True), (1, False), (0x7FF0000000000000, False), (0x7FF8000000000000, False),
+        ):
+            for signed in (pattern, 1 << 63 | pattern):
+                with self.subTest(hex(signed)):
+                    self.assertEqual(is_coordinate(signed), accepted)
+
+    def test_the_first_refused_place(self):
+        with self.assertRaises(Refused) as refusal:
+            coordinates(patterns_of([1.0, -0.0, 2.0**401, math.inf]))
+        self.assertEqual((refusal.exception.number, refusal.exception.place), (3, 2))

@@ -15,6 +15,8 @@ UNCLEAR = [
     ONE + b"\r", b"\r", b"\x00", ONE + b"\x00", b"\xff", b"apart\t3ff0000000000000", b" # comment",
     b"Apart 3ff0000000000000", b"apart 3ff000000000000", b"apart 03ff0000000000000", b"apart 3ff000000000000g",
     b"a" * 100_000, b" " * 100_000,
+    b"run", b"run ", b"run 01", b"run 4294967296", b"ceiling ", b"plain 0", b"side", b"zone", b"zone 3ff0000000000000",
+    b"write", b"write 10301", b"read", b"read 0 ", b"read 1101", b"read 0 0", b"read 0 00 00",
 ]
 
 COPIED = [b"", b"#", b"# " + ONE, b"#\r", b"#\x00\x80\xff", b"#" + b"\xff" * 100_000]
@@ -24,6 +26,19 @@ ANSWERED = [
     (b"apart 3FF0000000000000", ONE_APART),
     (b"apart 7ff0000000000000", b"refused 2 0"),
     (b"apart fFf8000000000000", b"refused 2 0"),
+    (b"run 0", b"run 0 0"),
+    (b"run 1 3FF0000000000000 BFF0000000000000", b"run 0 1 0000000000000000 0000000000000000"),
+    (b"run 0 3ff0000000000000 bff0000000000000", b"run undecided 0 3ff0000000000000 bff0000000000000"),
+    (b"run 0 fff8000000000000", b"refused 2 0"),
+    (b"ceiling", b"ceiling 0"),
+    (b"plain", b"plain 0"),
+    (b"plain bff0000000000000", b"plain -1"),
+    (b"side" + 6 * b" 3ff0000000000000", b"side 0 1 0"),
+    (b"zone" + 8 * b" 3ff0000000000000", b"zone border 0"),
+    (b"zone 3ff0000000000000 3ff0000000000000", b"refused 4 0"),
+    (b"write 10300", b"write 1 00"),
+    (b"read 1100 00", b"read 0"),
+    (b"read 0", b"refused 6 0"),
 ]
 
 

@@ -1,13 +1,15 @@
--- A double of a question: its bit pattern, 16 hexadecimal digits, either case.
-use Prim.Native.Nat.{ℕ, _+_, _-_, _*_}
-use mathlib.Core.Bool.{Bool, _&&_, cond}
+-- The numbers of a question: a double by its bit pattern, and a count.
+use Prim.Native.Nat.{ℕ, _+_, _-_, _*_, _^_}
+use mathlib.Core.Bool.{Bool, true, false, _&&_, cond}
 use mathlib.Core.List.{List, [], _∷_}
-use lib.Dec.{leb, eqb}
+use lib.Dec.{leb, ltb, eqb}
 use lib.ListN.{length}
 use Rattle.ask.specs.declared.numeral.Digit.{Digit}
-use Rattle.ask.specs.declared.numeral.Digit.the-variants.{Value, None}
-use Rattle.ask.specs.declared.numeral.Pattern.{Pattern}
-use Rattle.ask.specs.declared.numeral.Pattern.the-variants.{Bits, Unclear}
+use Rattle.ask.specs.declared.numeral.Digit.the-variants.{Value as Worth, None}
+use Rattle.ask.specs.declared.numeral.Numeral.{Numeral}
+use Rattle.ask.specs.declared.numeral.Numeral.the-variants.{Value, Unclear}
+use Rattle.ask.specs.declared.numeral.Count.{Count}
+use Rattle.ask.specs.declared.numeral.Count.the-variants.{Value as Counted, Unclear as Uncounted}
 
 -- a byte's code is from the one to the other
 abbrev pub between : ℕ → ℕ → ℕ → Bool
@@ -16,22 +18,34 @@ between from to b = leb from b && leb b to
 -- `0` to `9` are the codes 48 to 57, `A` to `F` are 65 to 70, `a` to `f` are 97 to 102
 unfoldable pub digitOf : ℕ → Digit
 digitOf b =
-    cond (between 48 57 b) (Value (b - 48))
-    (cond (between 65 70 b) (Value (b - 65 + 10))
-    (cond (between 97 102 b) (Value (b - 97 + 10))
+    cond (between 48 57 b) (Worth (b - 48))
+    (cond (between 65 70 b) (Worth (b - 65 + 10))
+    (cond (between 97 102 b) (Worth (b - 97 + 10))
     None))
 
--- goes on with a digit, and is unclear where there is none
-abbrev pub also : Digit → (ℕ → Pattern) → Pattern
-also (Value d) k = k d
-also None k = Unclear
+-- goes on with a digit of the base, and is unclear where there is none
+abbrev pub also : ℕ → Digit → (ℕ → Numeral) → Numeral
+also base (Worth d) k = cond (ltb d base) (k d) Unclear
+also base None k = Unclear
 
 -- the number v and then the digits of a word, the most significant first
-unfoldable pub onward : ℕ → List ℕ → Pattern
-onward v [] = Bits v
-onward v (b ∷ bs) = also (digitOf b) (λ d. onward (16 * v + d) bs)
+unfoldable pub onward : ℕ → ℕ → List ℕ → Numeral
+onward base v [] = Value v
+onward base v (b ∷ bs) = also base (digitOf b) (λ d. onward base (base * v + d) bs)
 
--- "A double is its bit pattern, 16 hexadecimal digits"
-unfoldable pub patternOf : List ℕ → Pattern
+-- "A double is its bit pattern, 16 hexadecimal digits; either case is read"
+unfoldable pub patternOf : List ℕ → Numeral
 unfolding onward
-patternOf word = cond (eqb (length word) 16) (onward 0 word) Unclear
+patternOf word = cond (eqb (length word) 16) (onward 16 0 word) Unclear
+
+-- "A count is a decimal number without sign, at most 2^32 - 1"
+abbrev pub small : Numeral → Count
+small (Value v) = cond (ltb v (2 ^ 32)) (Counted v) Uncounted
+small Unclear = Uncounted
+
+-- "with no leading zero but `0` itself"; so ten digits are enough
+unfoldable pub countOf : List ℕ → Count
+unfolding onward
+countOf [] = Uncounted
+countOf (b ∷ []) = small (onward 10 0 (b ∷ []))
+countOf (b ∷ c ∷ bs) = cond (eqb b 48) Uncounted (small (onward 10 0 (b ∷ c ∷ bs)))

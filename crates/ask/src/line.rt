@@ -2,15 +2,21 @@
 //
 // A line can be of any length. Only the word that is being read stands in `token`, and a question's doubles stand in `list`.
 use crate::numeral;
-use crate::numeral::Pattern;
+use crate::numeral::Count;
+use crate::numeral::Numeral;
 use crate::part::first;
 use crate::word;
 use crate::word::Word;
 
-// A question so far: its word, how many arguments were taken, and how many bytes of the next one stand in the token.
+// A question so far. Its doubles stand in the list, and the first bytes of the argument that is being read in the token.
 pub struct Question {
     pub word: Word,
+    // The count before the doubles; whether it has been read, or there is none.
+    pub count: u32,
+    pub counted: bool,
+    // How many doubles were taken.
     pub taken: usize,
+    // How many bytes stand in the token.
     pub len: usize,
 }
 
@@ -74,14 +80,17 @@ fn naming(len: usize, b: u8, token: &mut [u8]) -> Line {
 
 // The first word is whole.
 fn named(token: &[u8], len: usize) -> Line {
-    match word::word_of(first(token, len)) {
-        Word::Apart => Line::Asking(Question {
-            word: Word::Apart,
-            taken: 0,
-            len: 0,
-        }),
-        Word::None => Line::Unclear,
+    let word = word::word_of(first(token, len));
+    if let Word::None = word {
+        return Line::Unclear;
     }
+    Line::Asking(Question {
+        word: word,
+        count: 0,
+        counted: !word::takes_count(word),
+        taken: 0,
+        len: 0,
+    })
 }
 
 // One byte more of an argument.
@@ -94,20 +103,36 @@ fn asking(q: Question, b: u8, token: &mut [u8]) -> Line {
     let word = q.word;
     Line::Asking(Question {
         word: word,
+        count: q.count,
+        counted: q.counted,
         taken: q.taken,
         len: len + 1,
     })
 }
 
-// An argument is whole: a double, which joins the list.
+// An argument is whole: the count, or a double, which joins the list.
 fn taken(q: Question, token: &[u8], list: &mut [f64]) -> Line {
     let len = q.len;
-    let Pattern::Bits(bits) = numeral::pattern_of(first(token, len)) else {
+    let word = q.word;
+    if !q.counted {
+        let Count::Value(n) = numeral::count_of(first(token, len)) else {
+            return Line::Unclear;
+        };
+        return Line::Asking(Question {
+            word: word,
+            count: n,
+            counted: true,
+            taken: q.taken,
+            len: 0,
+        });
+    }
+    let Numeral::Value(bits) = numeral::pattern_of(first(token, len)) else {
         return Line::Unclear;
     };
-    let word = q.word;
     Line::Asking(Question {
         word: word,
+        count: q.count,
+        counted: true,
         taken: joined(q.taken, double::from_pattern(bits), list),
         len: 0,
     })

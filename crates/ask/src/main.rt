@@ -1,9 +1,12 @@
 // The line tool: reads questions from standard input, one to a line, and writes one answer line for each, in order, until the input ends.
 mod answer;
 mod line;
+mod numbers;
 mod numeral;
 mod out;
 mod part;
+mod sides;
+mod sums;
 mod word;
 
 use libc::EINTR;
@@ -14,7 +17,7 @@ use line::Line;
 const TOKEN: usize = 16;
 
 // Doubles of a question that are held: two more than the longest list that is accepted.
-const HELD: usize = 3;
+const HELD: usize = 1026;
 
 // What is left after some bytes of input: the line that they end in, and how many bytes of output wait.
 struct Left {

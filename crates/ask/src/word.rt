@@ -1,6 +1,11 @@
 // The words that a question begins with.
 pub enum Word {
     Apart,
+    Run,
+    Ceiling,
+    Plain,
+    Side,
+    Zone,
     // No question begins with it.
     None,
 }
@@ -9,5 +14,25 @@ pub fn word_of(token: &[u8]) -> Word {
     if check::same(token, b"apart") {
         return Word::Apart;
     }
+    if check::same(token, b"run") {
+        return Word::Run;
+    }
+    if check::same(token, b"ceiling") {
+        return Word::Ceiling;
+    }
+    if check::same(token, b"plain") {
+        return Word::Plain;
+    }
+    if check::same(token, b"side") {
+        return Word::Side;
+    }
+    if check::same(token, b"zone") {
+        return Word::Zone;
+    }
     Word::None
+}
+
+// Whether the first argument is a count.
+pub fn takes_count(word: Word) -> bool {
+    if let Word::Run = word { true } else { false }
 }

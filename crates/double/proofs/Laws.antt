@@ -23,6 +23,32 @@ pub mod Difference
 pub mod Step
 -- a value against a count times another, rounded
 pub mod Decision
+-- differences and products at a scale: values as significands times a power of two
+pub mod Scaled
+-- a significand cut into a high and a low half (Veltkamp), and the product's roundoff from the halves (Dekker), in numbers
+pub mod Halves
+-- a double split into a high and a low half (Veltkamp)
+pub mod Splitting
+-- the roundoff of a product from the halves, by four differences (Dekker)
+pub mod Dekker
+-- the sign bit of a product
+pub mod ProductSign
+-- a double as a significand of 53 digits, with its halves
+pub mod Significand
+-- the exact product: the rounded product and its roundoff
+pub mod ExactProduct
+-- grains and bounds of doubles, kept by differences and products
+pub mod Sized
+-- what callers of the exact product cite: for whom it holds, by parts, in ℤ, and how large the roundoff is
+pub mod Roundoff
+-- the filter of a difference of two products, in numbers
+pub mod Filter
+-- the greater of two magnitudes, as a double
+pub mod Greater
+-- the filter on four rounded differences, at the floats
+pub mod Threshold
+-- the filter decides the sign of the side's determinant
+pub mod Orientation
 -- a refusal is known by its number and its place
 pub mod Outcome
 -- the double of a bit pattern
@@ -31,3 +57,5 @@ pub mod Pattern
 pub mod Apart
 -- real doubles, worked through
 mod Examples
+-- products and the filter on real doubles, worked through
+mod ProductExamples

@@ -8,3 +8,4 @@ pub mod refusal;
 
 pub use apart::take_apart;
 pub use pattern::from_pattern;
+pub use pattern::to_pattern;

@@ -1,6 +1,6 @@
-// The double of a bit pattern.
+// A double and its bit pattern, both ways.
 ghost use mathlib.Core.Path.{_≡_};
-ghost use lib.Ieee.{binary64, ofBits};
+ghost use lib.Ieee.{binary64, ofBits, toBits};
 
 // The patterns above infinity's, the sign left out, are the NaNs'.
 const INFINITY: u64 = 0x7FF0_0000_0000_0000;
@@ -15,4 +15,17 @@ pub fn from_pattern(bits: u64) -> f64
         return 0.0 / 0.0;
     }
     f64::from_bits(bits)
+}
+
+// The pattern of every NaN.
+const NAN: u64 = 0x7FF8_0000_0000_0000;
+
+// The bits of x. Every NaN gives the same ones.
+pub fn to_pattern(x: f64) -> u64
+    ensures { λ r. ⌜ r ≡ toBits binary64 x ⌝ }
+{
+    if x != x {
+        return NAN;
+    }
+    f64::to_bits(x)
 }

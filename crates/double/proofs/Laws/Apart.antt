@@ -1,6 +1,6 @@
 -- A double taken apart. In order: the significand and the exponent of a magnitude and their ranges; the three fields of a pattern, and the
--- answer that they give; what the answer means: the worth is ±s·2^e units, the parts give back the double, and no two results satisfy
--- the promise. Assumes nothing.
+-- answer that they give; what the answer means: the worth is ±s·2^e units, the parts give back the double; no two results satisfy the
+-- promise; what it tells a caller. Assumes nothing.
 use mathlib.Core.Path.{_≡_, refl, sym, ap, ap₂, _∙_, subst}
 use mathlib.Core.Logic.{_⊎_, inl, inr, _↔_}
 use mathlib.Core.Bool.{Bool, true, false, not, cond}
@@ -22,6 +22,7 @@ use Rattle.double.specs.Apart.{said, apartOf, exponentOf, significandOf,
 use Rattle.double.proofs.Laws.Digits.{Rep}
 use Rattle.double.proofs.Laws.Units.{Real, mag-lt, mag-rep, ofUnits-own}
 use Rattle.double.proofs.Laws.Outcome.{refuses-once}
+use Rattle.double.specs.declared.refusal.Refusal.{Refusal}
 use Rattle.double.specs.declared.answer.Parts.{Parts}
 use Rattle.double.specs.declared.answer.Taken.{Taken}
 use Rattle.double.specs.declared.answer.Taken.the-variants.{Apart, Refused}
@@ -128,12 +129,6 @@ pub nan-refused : (x : Float) → ne x x ≡ true → refusal ≡ apartOf x
 unfolding apartOf
 nan-refused x h = ap apartOf (sym (differs-from-itself x (subst T (sym h) tt)))
 
-pub number-of-itself : (x : Float) → ne x x ≡ false → T (not (isNan x))
-unfolding ne isNan
-number-of-itself nan h = absurd (subst T h tt)
-number-of-itself (inf s) h = tt
-number-of-itself (fin s m e) h = tt
-
 pub infinite-refused : (x : Float) → T (fits binary64 x) → T (not (isNan x)) → field x ≡ 2047 → refusal ≡ apartOf x
 unfolding isNan apartOf
 infinite-refused nan t u h = absurd u
@@ -224,3 +219,29 @@ said-once (Refused r) (Refused q) e = ap Refused (refuses-once r q e)
 
 pub take-apart-fixed : (x : Float) → Fixes (λ (r : Taken). said r ≡ apartOf x)
 take-apart-fixed x a b p q = said-once a b (p ∙ sym q)
+
+-- ---- what the promise tells a caller
+answers-finite : (x : Float) (p : Parts) → apartOf x ≡ answers p → finite x ≡ true
+unfolding apartOf
+answers-finite nan p h = cc
+answers-finite (inf s) p h = cc
+answers-finite (fin s m e) p h = refl
+
+refuses-infinite : (x : Float) (n k : ℕ) → apartOf x ≡ refuses n k → finite x ≡ false
+unfolding apartOf
+refuses-infinite nan n k h = refl
+refuses-infinite (inf s) n k h = refl
+refuses-infinite (fin s m e) n k h = cc
+
+module _ (x : Float) (r : Taken) (promise : said r ≡ apartOf x) where
+  pub taken-means : T (fits binary64 x) → (p : Parts) → r ≡ Apart p → Means x p
+  unfolding said
+  taken-means t p h = apart-means x t p (sym promise ∙ ap said h)
+
+  pub taken-finite : (p : Parts) → r ≡ Apart p → finite x ≡ true
+  unfolding said
+  taken-finite p h = answers-finite x p (sym promise ∙ ap said h)
+
+  pub taken-refused : (q : Refusal) → r ≡ Refused q → finite x ≡ false
+  unfolding said
+  taken-refused q h = refuses-infinite x (q .number) (q .place) (sym promise ∙ ap said h)

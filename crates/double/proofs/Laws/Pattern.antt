@@ -1,10 +1,11 @@
--- The double of a bit pattern. In order: the patterns above infinity's are NaNs', the others are not; no two results satisfy the
--- promise. Assumes nothing.
-use mathlib.Core.Path.{_≡_, refl, sym, _∙_, subst}
+-- A double and its bit pattern. In order: the patterns above infinity's are NaNs', the others are not; a NaN's pattern; no two results
+-- satisfy either promise. Assumes nothing.
+use mathlib.Core.Path.{_≡_, refl, sym, ap, _∙_, subst}
 use mathlib.Core.Bool.{Bool, true, false, not}
 use Prim.Native.Nat.{ℕ, _*_, _%_, _≤_, _<_}
 use lib.Dec.{T, ltb}
-use lib.Ieee.{Float, nan, inf, fin, binary64, isNan, ofBits, nanBits, ones, hid, top}
+use lib.Ieee.{Float, nan, inf, fin, binary64, isNan, ofBits, toBits, nanBits, ones, hid, top, ne}
+use lib.Ieee.Compare.{differs-from-itself}
 use lib.Ieee.Bits.{nanBits-is, nanBits-above}
 use borrow.Author.Tests.{lt-ltb, le-ltb}
 use Rattle.double.specs.Outcome.{Fixes}
@@ -25,5 +26,21 @@ number-pattern b h =
     let not-above : nanBits binary64 b ≡ false = nanBits-above binary64 b ∙ le-ltb (ones binary64 * hid binary64) (b % top binary64) h in
     subst (λ (t : Bool). T (not t)) (sym not-above) tt
 
+-- ---- the pattern of a double
+-- only a NaN differs from itself
+pub nan-bits : (x : Float) → ne x x ≡ true → 0x7FF8_0000_0000_0000 ≡ toBits binary64 x
+unfolding toBits
+nan-bits x h = ap (λ (x : Float). toBits binary64 x) (sym (differs-from-itself x (subst T (sym h) tt)))
+
+pub number-of-itself : (x : Float) → ne x x ≡ false → T (not (isNan x))
+unfolding ne isNan
+number-of-itself nan h = absurd (subst T h tt)
+number-of-itself (inf s) h = tt
+number-of-itself (fin s m e) h = tt
+
+-- ---- no two results satisfy either promise
 pub from-pattern-fixed : (b : ℕ) → Fixes (λ (r : Float). r ≡ ofBits binary64 b)
 from-pattern-fixed b x y p q = p ∙ sym q
+
+pub to-pattern-fixed : (x : Float) → Fixes (λ (r : ℕ). r ≡ toBits binary64 x)
+to-pattern-fixed x a b p q = p ∙ sym q

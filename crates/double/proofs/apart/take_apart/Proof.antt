@@ -4,7 +4,8 @@ use lib.Dec.{T}
 use lib.Ieee.{binary64, fits}
 use borrow.Author.Needs.{needs}
 use Rattle.double.specs.Apart.{said}
-use Rattle.double.proofs.Laws.Apart.{nan-refused, number-of-itself, infinite-refused, subnormal-parted, normal-parted}
+use Rattle.double.proofs.Laws.Pattern.{number-of-itself}
+use Rattle.double.proofs.Laws.Apart.{nan-refused, infinite-refused, subnormal-parted, normal-parted}
 use Rattle.double.proofs.apart.take_apart.Statement.{statement}
 use Rattle.double.proofs.apart.take_apart.Tie as tie
 use Rattle.double.proofs.apart.take_apart.Reads as reads

@@ -1,0 +1,15 @@
+-- The laws of the side of a point and of the zone, each file over those above it.
+-- the exact product, and for whom it holds
+pub mod Product
+-- the twelve summands: their total is the determinant
+pub mod Summands
+-- stages 1 and 2 never answer wrongly
+pub mod Filter
+-- stage 3 answers, and with the determinant's sign
+pub mod Exact
+-- the side: its sign, stage and steps, its refusals, and no two results
+pub mod Side
+-- the edges of a zone, and one edge and a point
+pub mod Edges
+-- the walk and the count over all edges, and the refusals of a zone
+pub mod Zone

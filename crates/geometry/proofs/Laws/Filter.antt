@@ -1,0 +1,167 @@
+-- Stages 1 and 2 of a side, for points whose coordinates lie within the reach. In order: what each answer says of the tests; the facts of
+-- the filter; the rule's answer is never wrong; each answer by the tests before it; a rounded difference of coordinates against 001's two
+-- bounds. Not here: why a D above E is decided (`Orientation` of crate double). Assumes nothing.
+use mathlib.Core.Path.{_≡_, refl, sym, ap, ap₂, _∙_}
+use mathlib.Core.Bool.{Bool, true, false, _||_, cond}
+use mathlib.Core.Logic.{_⊎_, inl, inr}
+use Prim.Native.Nat.{ℕ, _*_, _^_, _≤_, _<_}
+use native.Mathlib.Nat.{lt-of-lt-of-le, lt-of-le-of-lt, mul-le-mul-right}
+use native.Mathlib.Omega.{arith}
+use lib.Dec.{T, lit≤, lit<}
+use lib.IntN.{pos}
+use lib.Ieee.{Float, binary64, ofBits, sub, neg, lt, eq}
+use Rattle.whole.specs.Order.{_<ᶻ_}
+use Rattle.double.specs.Worth.{mag}
+use Rattle.double.proofs.Laws.Sized.{Reach, sub-range}
+use Rattle.double.proofs.Laws.Greater.{greater-of, zero-test}
+use Rattle.double.proofs.Laws.Orientation.{Filtered, filtered-farther}
+use Rattle.point.specs.declared.Point.{Point}
+use Rattle.point.specs.Accepted.{reach, magnitudeOf}
+use Rattle.sum.specs.declared.answer.Sign.the-variants.{Minus, Zero, Plus}
+use Rattle.geometry.specs.Determinant.{determinant}
+use Rattle.geometry.specs.Filter.{plus0, greater, spanOf, thresholdOf, differenceOf, clearBy, filterBy, filterOf, FilterSays}
+use Rattle.geometry.specs.declared.filter.Early.{Early}
+use Rattle.geometry.specs.declared.filter.Early.the-variants.{Level, Clear, Open}
+use Rattle.geometry.proofs.Laws.Product.{Within}
+
+-- ---- the answer by four tests: X is zero, Y is zero, D is above E, D is below -E
+abbrev tested : Bool → Bool → Bool → Bool → Early
+tested x y above below = cond (x || y) Level (cond above (Clear Plus) (cond below (Clear Minus) Open))
+
+never : {A : Type 0} → _≡_ {A = ℕ} 0 1 → A
+never e = let w : ⊥ = omega arith in absurd w
+
+tested-level : (x y above below : Bool) → tested x y above below ≡ Level → T x ⊎ T y
+tested-level true y a b e = inl tt
+tested-level false true a b e = inr tt
+tested-level false false true b e = never (cc)
+tested-level false false false true e = never (cc)
+tested-level false false false false e = never (cc)
+
+tested-plus : (x y above below : Bool) → tested x y above below ≡ Clear Plus → T above
+tested-plus true y a b e = never (cc)
+tested-plus false true a b e = never (cc)
+tested-plus false false true b e = tt
+tested-plus false false false true e = never (cc)
+tested-plus false false false false e = never (cc)
+
+tested-minus : (x y above below : Bool) → tested x y above below ≡ Clear Minus → T below
+tested-minus true y a b e = never (cc)
+tested-minus false true a b e = never (cc)
+tested-minus false false true b e = never (cc)
+tested-minus false false false true e = tt
+tested-minus false false false false e = never (cc)
+
+tested-zero : {A : Type 0} (x y above below : Bool) → tested x y above below ≡ Clear Zero → A
+tested-zero true y a b e = never (cc)
+tested-zero false true a b e = never (cc)
+tested-zero false false true b e = never (cc)
+tested-zero false false false true e = never (cc)
+tested-zero false false false false e = never (cc)
+
+-- ---- the filter of three points
+module _ (p q r : Point) (P : Within reach p) (Q : Within reach q) (R : Within reach r) where
+  abbrev X : Float
+  X = spanOf (q .x) (r .x) (p .x)
+
+  abbrev Y : Float
+  Y = spanOf (q .y) (r .y) (p .y)
+
+  abbrev D : Float
+  D = differenceOf p q r
+
+  abbrev E : Float
+  E = thresholdOf X Y
+
+  -- every value on the way is finite, and what each test says of the determinant
+  filter-facts : Filtered (p .x) (p .y) (q .x) (q .y) (r .x) (r .y) X Y
+  unfolding magnitudeOf ofBits
+  filter-facts = filtered-farther reach (p .x) (p .y) (q .x) (q .y) (r .x) (r .y) (lit≤ tt) (P .x) (P .y) (Q .x) (Q .y) (R .x) (R .y)
+
+  positive : T (lt E D) → pos 0 <ᶻ determinant p q r
+  unfolding ofBits
+  positive t = filter-facts .positive t
+
+  negative : T (lt D (neg E)) → determinant p q r <ᶻ pos 0
+  unfolding ofBits
+  negative t = filter-facts .negative t
+
+  level : T (eq X plus0) ⊎ T (eq Y plus0) → determinant p q r ≡ pos 0
+  unfolding magnitudeOf ofBits
+  level t =
+      let F = filter-facts in
+      F .level (elim t [
+        | inl z ↦ inl (zero-test X (greater-of (sub binary64 (q .x) (p .x)) (sub binary64 (r .x) (p .x)) (F .qx-px) (F .rx-px) .real) .0 z)
+        | inr z ↦ inr (zero-test Y (greater-of (sub binary64 (q .y) (p .y)) (sub binary64 (r .y) (p .y)) (F .qy-py) (F .ry-py) .real) .0 z)
+      ])
+
+  rule-is : {f : Early} → f ≡ filterBy D X Y → f ≡ filterOf p q r
+  unfolding filterOf
+  rule-is e = e
+
+  -- the answer that the rule gives is never wrong
+  pub filter-says : {x y : Float} {f : Early} → x ≡ X → y ≡ Y → f ≡ filterBy D x y → FilterSays p q r f
+  filter-says {x} {y} {f} ex ey e =
+      let own : f ≡ tested (eq X plus0) (eq Y plus0) (lt E D) (lt D (neg E)) = e ∙ ap₂ (λ (a b : Float). filterBy D a b) ex ey in
+      record {
+        answer = rule-is own;
+        level = λ g. level (tested-level (eq X plus0) (eq Y plus0) (lt E D) (lt D (neg E)) (sym own ∙ g));
+        plus = λ g. positive (tested-plus (eq X plus0) (eq Y plus0) (lt E D) (lt D (neg E)) (sym own ∙ g));
+        minus = λ g. negative (tested-minus (eq X plus0) (eq Y plus0) (lt E D) (lt D (neg E)) (sym own ∙ g));
+      }
+
+  -- the rule keeps its promise
+  pub filter-rule : FilterSays p q r (filterOf p q r)
+  unfolding filterOf
+  filter-rule = filter-says refl refl refl
+
+-- a clear sign is not 0
+pub filter-clear : {A : Type 0} (p q r : Point) → filterOf p q r ≡ Clear Zero → A
+unfolding filterOf
+filter-clear p q r e =
+    let X : Float = spanOf (q .x) (r .x) (p .x) in
+    let Y : Float = spanOf (q .y) (r .y) (p .y) in
+    let D : Float = differenceOf p q r in
+    tested-zero (eq X plus0) (eq Y plus0) (lt (thresholdOf X Y) D) (lt D (neg (thresholdOf X Y))) e
+
+-- the code's way to X and Y
+pub span-is : (u v w : Float) {a b x : Float} → a ≡ magnitudeOf (sub binary64 u w) → b ≡ magnitudeOf (sub binary64 v w) → x ≡ greater a b
+    → x ≡ spanOf u v w
+span-is u v w e f g = g ∙ ap₂ greater e f
+
+-- ---- each answer by the tests before it
+pub by-x : (D X Y : Float) → eq X plus0 ≡ true → Level ≡ filterBy D X Y
+by-x D X Y e = ap (λ (b : Bool). cond b Level (clearBy D (thresholdOf X Y))) (sym (ap (λ (b : Bool). b || eq Y plus0) e))
+
+module _ (D X Y : Float) (x : eq X plus0 ≡ false) where
+  pub by-y : eq Y plus0 ≡ true → Level ≡ filterBy D X Y
+  by-y y = ap (λ (b : Bool). cond b Level (clearBy D (thresholdOf X Y))) (sym (ap₂ _||_ x y))
+
+  module _ (y : eq Y plus0 ≡ false) where
+    not-level : clearBy D (thresholdOf X Y) ≡ filterBy D X Y
+    not-level = ap (λ (b : Bool). cond b Level (clearBy D (thresholdOf X Y))) (sym (ap₂ _||_ x y))
+
+    pub by-plus : lt (thresholdOf X Y) D ≡ true → Clear Plus ≡ filterBy D X Y
+    by-plus e = ap (λ (b : Bool). cond b (Clear Plus) (cond (lt D (neg (thresholdOf X Y))) (Clear Minus) Open)) (sym e) ∙ not-level
+
+    module _ (e : lt (thresholdOf X Y) D ≡ false) where
+      not-plus : cond (lt D (neg (thresholdOf X Y))) (Clear Minus) Open ≡ filterBy D X Y
+      not-plus = ap (λ (b : Bool). cond b (Clear Plus) (cond (lt D (neg (thresholdOf X Y))) (Clear Minus) Open)) (sym e) ∙ not-level
+
+      pub by-minus : lt D (neg (thresholdOf X Y)) ≡ true → Clear Minus ≡ filterBy D X Y
+      by-minus f = ap (λ (b : Bool). cond b (Clear Minus) Open) (sym f) ∙ not-plus
+
+      pub by-none : lt D (neg (thresholdOf X Y)) ≡ false → Open ≡ filterBy D X Y
+      by-none f = ap (λ (b : Bool). cond b (Clear Minus) Open) (sym f) ∙ not-plus
+
+-- ---- 001's bounds
+module _ (x y : Float) (rx : Reach reach x) (ry : Reach reach y) (some : 0 < mag binary64 (sub binary64 x y)) where
+  -- a rounded difference that is not zero lies from 2 ^ -452 to 2 ^ 401
+  pub difference-range : (2 ^ 622 ≤ mag binary64 (sub binary64 x y)) × (mag binary64 (sub binary64 x y) ≤ 2 ^ 1475)
+  difference-range = sub-range reach x y (lit≤ tt) rx ry some
+
+  -- so it is above 1e-146 and below 1e153: "the underflow and overflow tests of 001 can not fire"
+  pub difference-tests : (2 ^ 1074 < mag binary64 (sub binary64 x y) * 10 ^ 146) × (mag binary64 (sub binary64 x y) < 10 ^ 153 * 2 ^ 1074)
+  difference-tests =
+      let (low, high) = difference-range in
+      (lt-of-lt-of-le (lit< tt) (mul-le-mul-right (10 ^ 146) low), lt-of-le-of-lt high (lit< tt))

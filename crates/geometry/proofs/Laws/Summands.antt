@@ -1,0 +1,200 @@
+-- The twelve summands of stage 3. In order: six pairs that are the six products are the determinant, in whole numbers; the ceiling of a
+-- list of doubles that are multiples of 2 ^ g and at most 2 ^ b units; the summands are such doubles, their total is the determinant, and
+-- their ceiling, all over the reach k of the coordinates; the same for accepted points, whose reach is 400, and the sign.
+-- Not here: one pair (`Product`); what the sum rule makes of the list (sum's `Descent`). Assumes nothing.
+use mathlib.Core.Path.{_≡_, refl, sym, ap, ap₂, _∙_}
+use mathlib.Core.Logic.{_⊎_, inl, inr}
+use mathlib.Core.List.{List, [], _∷_}
+use Prim.Native.Nat.{ℕ, suc, _+_, _-_, _*_, _/_, _^_, _≤_, _<_, _∣_, zero-le}
+use native.Mathlib.Nat.{le-trans, le-of-eq, lt-of-le-of-lt, eq-zero-or-pos, zero-lt-suc}
+use native.Mathlib.Omega.{arith}
+use lib.Dec.{lit≤}
+use lib.IntN.{ℤ, pos, negℤ, _+ℤ_, _-ℤ_, _*ℤ_, *ℤ-comm}
+use lib.ListN.{length, getD}
+use lib.Pow.{pow-pos, pow-lt, shr-lt}
+use lib.Ieee.{Float, nan, binary64, mul, neg, size}
+use lib.Ieee.Digits.{size-le}
+use Rattle.whole.specs.Sign.{sgn}
+use Rattle.whole.proofs.Laws.Parts.{pos-<}
+use Rattle.whole.proofs.Laws.Ring.{_:+_, _:-_, _:*_, opp, num, solve}
+use Rattle.whole.proofs.Laws.Sign.{sgn-scale}
+use Rattle.double.specs.Worth.{mag, worth}
+use Rattle.double.proofs.Laws.Units.{Real}
+use Rattle.double.proofs.Laws.Sized.{Sized}
+use Rattle.point.specs.declared.Point.{Point}
+use Rattle.point.specs.Accepted.{reach}
+use Rattle.sum.specs.Total.{totalOf}
+use Rattle.sum.specs.Limit.{divisor}
+use Rattle.sum.specs.Ceiling.{grainOf, roundUp, weightOf, ceilingOf}
+use Rattle.sum.specs.Refused.{AllFinite}
+use Rattle.sum.proofs.Laws.Entries.{All, AllReal, all-at, all-of, real-finite}
+use Rattle.sum.proofs.Laws.Grain.{grain-greatest}
+use Rattle.sum.proofs.Laws.Ceiling.{ceiling-zeros}
+use Rattle.geometry.specs.Determinant.{determinant}
+use Rattle.geometry.specs.Product.{unit, roundoffOf, summandsOf}
+use Rattle.geometry.specs.Side.{mostSteps}
+use Rattle.geometry.proofs.Laws.Product.{Within, Paired, pairGrain, pairMost, reach-neg, worth-neg, reach-paired}
+
+pub summands-length : (p q r : Point) → length (summandsOf p q r) ≡ 12
+unfolding summandsOf
+summands-length p q r = refl
+
+-- ---- the determinant from six pairs
+-- twelve summands are six pairs
+sum-of-pairs : (a b c d e f g h i j k l u : ℤ)
+    → (a +ℤ (b +ℤ (c +ℤ (d +ℤ (e +ℤ (f +ℤ (g +ℤ (h +ℤ (i +ℤ (j +ℤ (k +ℤ (l +ℤ pos 0)))))))))))) *ℤ u
+    ≡ (a +ℤ b) *ℤ u +ℤ (c +ℤ d) *ℤ u +ℤ (e +ℤ f) *ℤ u +ℤ (g +ℤ h) *ℤ u +ℤ (i +ℤ j) *ℤ u +ℤ (k +ℤ l) *ℤ u
+sum-of-pairs =
+    solve 13 (λ a b c d e f g h i j k l u. (
+      (a :+ (b :+ (c :+ (d :+ (e :+ (f :+ (g :+ (h :+ (i :+ (j :+ (k :+ (l :+ num 0)))))))))))) :* u,
+      (a :+ b) :* u :+ (c :+ d) :* u :+ (e :+ f) :* u :+ (g :+ h) :* u :+ (i :+ j) :* u :+ (k :+ l) :* u,
+    )) refl
+
+-- six products are the determinant: px·py cancels
+six-products : (px py qx qy rx ry : ℤ)
+    → qx *ℤ ry +ℤ negℤ qx *ℤ py +ℤ negℤ px *ℤ ry +ℤ negℤ qy *ℤ rx +ℤ qy *ℤ px +ℤ py *ℤ rx
+    ≡ (qx -ℤ px) *ℤ (ry -ℤ py) -ℤ (qy -ℤ py) *ℤ (rx -ℤ px)
+six-products =
+    solve 6 (λ px py qx qy rx ry. (
+      qx :* ry :+ opp qx :* py :+ opp px :* ry :+ opp qy :* rx :+ qy :* px :+ py :* rx,
+      (qx :- px) :* (ry :- py) :- (qy :- py) :* (rx :- px),
+    )) refl
+
+six-sums : {a b c d e f t u v w x y : ℤ} → a ≡ t → b ≡ u → c ≡ v → d ≡ w → e ≡ x → f ≡ y
+    → a +ℤ b +ℤ c +ℤ d +ℤ e +ℤ f ≡ t +ℤ u +ℤ v +ℤ w +ℤ x +ℤ y
+six-sums p q r s t u = cc
+
+-- a list is of zeros, or has an entry that is none
+zeros-or-some : (xs : List Float)
+    → All (λ x. mag binary64 x ≡ 0) xs ⊎ ((i : ℕ) × (i < length xs) × (0 < mag binary64 (getD xs i nan)))
+zeros-or-some [] = inl tt
+zeros-or-some (x ∷ xs) = elim (eq-zero-or-pos (mag binary64 x)) [
+  | inl e ↦ elim (zeros-or-some xs) [
+    | inl a ↦ inl (e, a)
+    | inr s ↦ inr (suc (s .0), omega (arith, s .1), s .2)
+  ]
+  | inr h ↦ inr (0, zero-lt-suc (length xs), h)
+]
+
+-- ---- doubles that are multiples of 2 ^ g and at most 2 ^ b units
+module _ (g b : ℕ) where
+  abbrev AllSized : List Float → Type 0
+  AllSized xs = All (Sized g b) xs
+
+  sized-real : (xs : List Float) → AllSized xs → AllReal xs
+  sized-real xs a = all-of (Real binary64) xs nan (λ i h. all-at (Sized g b) xs i nan a h .real)
+
+  -- over a grain that is no less, such a double has no more than b + 1 - g digits
+  length-most : (j : ℕ) (x : Float) → g ≤ b → g ≤ j → Sized g b x → size (mag binary64 x / 2 ^ j) ≤ b + 1 - g
+  length-most j x l h r =
+      size-le (mag binary64 x / 2 ^ j) (b + 1 - g) (shr-lt (b + 1 - g) j (lt-of-le-of-lt (r .most) (pow-lt (over b g j l h))))
+    where
+      over : (b g j : ℕ) → g ≤ b → g ≤ j → b < b + 1 - g + j
+      over b g j l h = omega arith
+
+  weight-most : (j : ℕ) → g ≤ b → g ≤ j → (xs : List Float) → AllSized xs
+      → weightOf divisor j xs ≤ length xs * roundUp divisor (b + 1 - g)
+  unfolding weightOf
+  weight-most j l h [] a = zero-le
+  weight-most j l h (x ∷ xs) a =
+      more (size (mag binary64 x / 2 ^ j)) (b + 1 - g) (weightOf divisor j xs) (length xs) (length-most j x l h (a .0))
+      (weight-most j l h xs (a .1))
+    where
+      step : (s t w n : ℕ) → s ≤ t → w ≤ n * t → s + w ≤ suc n * t
+      step s t w n h k = omega arith
+
+      rounded : (z m : ℕ) → z ≤ m → roundUp divisor z ≤ roundUp divisor m
+      rounded z m h = omega arith
+
+      more : (z m w n : ℕ) → z ≤ m → w ≤ n * roundUp divisor m → roundUp divisor z + w ≤ suc n * roundUp divisor m
+      more z m w n h k = step (roundUp divisor z) (roundUp divisor m) w n (rounded z m h) k
+
+  sized-ceiling : g ≤ b → (xs : List Float) → AllSized xs → ceilingOf xs ≤ length xs * roundUp divisor (b + 1 - g)
+  unfolding ceilingOf
+  sized-ceiling l xs a = elim (zeros-or-some xs) [
+    | inl z ↦ le-trans (le-of-eq (ceiling-zeros xs z)) zero-le
+    | inr s ↦
+        weight-most (grainOf xs) l
+        (grain-greatest xs g (sized-real xs a) (all-of (λ x. 2 ^ g ∣ mag binary64 x) xs nan
+        (λ i h. all-at (Sized g b) xs i nan a h .grain)) (s .0) (s .1) (s .2)) xs a
+  ]
+
+-- ---- the twelve summands
+module _ (k : ℕ) (room : k ≤ 485) (p q r : Point) (P : Within k p) (Q : Within k q) (R : Within k r) where
+  one : Paired k (q .x) (r .y)
+  one = reach-paired k room (q .x) (r .y) (Q .x) (R .y)
+
+  two : Paired k (neg (q .x)) (p .y)
+  two = reach-paired k room (neg (q .x)) (p .y) (reach-neg k (q .x) (Q .x)) (P .y)
+
+  three : Paired k (neg (p .x)) (r .y)
+  three = reach-paired k room (neg (p .x)) (r .y) (reach-neg k (p .x) (P .x)) (R .y)
+
+  four : Paired k (neg (q .y)) (r .x)
+  four = reach-paired k room (neg (q .y)) (r .x) (reach-neg k (q .y) (Q .y)) (R .x)
+
+  five : Paired k (q .y) (p .x)
+  five = reach-paired k room (q .y) (p .x) (Q .y) (P .x)
+
+  six : Paired k (p .y) (r .x)
+  six = reach-paired k room (p .y) (r .x) (P .y) (R .x)
+
+  summands-sized : All (Sized (pairGrain k) (pairMost k)) (summandsOf p q r)
+  unfolding summandsOf
+  summands-sized = paired one (paired two (paired three (paired four (paired five (paired six tt)))))
+    where
+      paired : {x y : Float} {A : Type 0} → Paired k x y → A
+          → Sized (pairGrain k) (pairMost k) (mul binary64 x y) × (Sized (pairGrain k) (pairMost k) (roundoffOf x y) × A)
+      paired t a = (t .rounded, (t .rest, a))
+
+  summands-real-within : AllReal (summandsOf p q r)
+  summands-real-within = sized-real (pairGrain k) (pairMost k) (summandsOf p q r) summands-sized
+
+  -- in squares of units
+  summands-total-within : totalOf (summandsOf p q r) *ℤ unit ≡ determinant p q r
+  unfolding totalOf summandsOf
+  summands-total-within =
+      sum-of-pairs
+      (worth (mul binary64 (q .x) (r .y))) (worth (roundoffOf (q .x) (r .y)))
+      (worth (mul binary64 (neg (q .x)) (p .y))) (worth (roundoffOf (neg (q .x)) (p .y)))
+      (worth (mul binary64 (neg (p .x)) (r .y))) (worth (roundoffOf (neg (p .x)) (r .y)))
+      (worth (mul binary64 (neg (q .y)) (r .x))) (worth (roundoffOf (neg (q .y)) (r .x)))
+      (worth (mul binary64 (q .y) (p .x))) (worth (roundoffOf (q .y) (p .x)))
+      (worth (mul binary64 (p .y) (r .x))) (worth (roundoffOf (p .y) (r .x)))
+      unit
+      ∙ six-sums
+      (one .exact)
+      (two .exact ∙ ap (λ (z : ℤ). z *ℤ worth (p .y)) (worth-neg k (q .x) (Q .x)))
+      (three .exact ∙ ap (λ (z : ℤ). z *ℤ worth (r .y)) (worth-neg k (p .x) (P .x)))
+      (four .exact ∙ ap (λ (z : ℤ). z *ℤ worth (r .x)) (worth-neg k (q .y) (Q .y)))
+      (five .exact)
+      (six .exact)
+      ∙ six-products (worth (p .x)) (worth (p .y)) (worth (q .x)) (worth (q .y)) (worth (r .x)) (worth (r .y))
+
+  summands-ceiling-within : ceilingOf (summandsOf p q r) ≤ 12 * roundUp divisor (105 + 4 * k)
+  summands-ceiling-within =
+      le-trans (sized-ceiling (pairGrain k) (pairMost k) (omega arith) (summandsOf p q r) summands-sized)
+      (le-of-eq (ap₂ (λ (n m : ℕ). n * roundUp divisor m) (summands-length p q r) (span k room)))
+    where
+      span : (k : ℕ) → k ≤ 485 → pairMost k + 1 - pairGrain k ≡ 105 + 4 * k
+      span k h = omega arith
+
+-- ---- accepted points: what `accepted-within` of `Product` gives
+module _ (p q r : Point) (P : Within reach p) (Q : Within reach q) (R : Within reach r) where
+  pub summands-real : AllReal (summandsOf p q r)
+  summands-real = summands-real-within reach (lit≤ tt) p q r P Q R
+
+  pub summands-finite : AllFinite (summandsOf p q r)
+  summands-finite = real-finite (summandsOf p q r) summands-real
+
+  pub summands-total : totalOf (summandsOf p q r) *ℤ unit ≡ determinant p q r
+  summands-total = summands-total-within reach (lit≤ tt) p q r P Q R
+
+  pub summands-sign : sgn (totalOf (summandsOf p q r)) ≡ sgn (determinant p q r)
+  summands-sign =
+      let t : ℤ = totalOf (summandsOf p q r) in
+      sym (sgn-scale unit t (pos-< 0 (2 ^ 1074) .1 (pow-pos 1074))) ∙ ap sgn (*ℤ-comm unit t ∙ summands-total)
+
+  -- 12 times 40: a budget of `mostSteps` is enough
+  pub summands-ceiling : ceilingOf (summandsOf p q r) ≤ mostSteps
+  summands-ceiling = le-trans (summands-ceiling-within reach (lit≤ tt) p q r P Q R) (lit≤ tt)

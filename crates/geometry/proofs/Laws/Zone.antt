@@ -1,0 +1,276 @@
+-- All edges of a zone, and its refusals. In order: one more edge in the count, which no edge enters twice; the place off the border; the
+-- count and the walk over the edges of a flat list; the search for a coordinate that is not accepted, and what its end says; the refusals
+-- in their order; no two results satisfy the promise. Not here: one edge (`Edges`). Assumes nothing.
+use mathlib.Core.Path.{_≡_, refl, sym, ap, ap₂, _∙_, subst}
+use mathlib.Core.Bool.{Bool, true, false, cond, _&&_}
+use mathlib.Core.List.{List, [], _∷_}
+use Prim.Native.Nat.{ℕ, zero, suc, _+_, _*_, _/_, _%_, _≤_, _<_}
+use native.Mathlib.Numerals.{add-one}
+use native.Mathlib.Nat.{le-refl}
+use native.Mathlib.Omega.{arith}
+use lib.Dec.{T, ltb}
+use lib.IntN.{ℤ, pos, negsuc}
+use lib.ListN.{length, drop, getD, length-drop, drop-of-length-le}
+use lib.Seq.{drop-cons}
+use lib.Ieee.{Float, nan, lt, le}
+use borrow.Author.Tests.{ltb-true, lt-ltb, le-ltb, eq-eqb, ne-eqb}
+use Rattle.double.specs.Outcome.{Outcome, answers, refuses, Fixes, tooMany, notAccepted, tooFewCorners, oddLength}
+use Rattle.double.specs.declared.refusal.Refusal.{Refusal}
+use Rattle.double.proofs.Laws.Outcome.{refuses-once}
+use Rattle.point.specs.declared.Point.{Point}
+use Rattle.point.specs.Accepted.{acceptedOf, acceptingFrom}
+use Rattle.geometry.specs.Side.{Accepted}
+use Rattle.geometry.specs.Zone.{fewest, most, cornersOf, Edge, edge, edgesOf, isPositive, isNegative, sideOfEdge}
+use Rattle.geometry.specs.Zone.{onEdge, isUp, isDown, crossingOf, countOf, parity, walk, placeOf, cornerAt, nextOf}
+use Rattle.geometry.specs.Zone.{withEdge, countsOf, cornersFault, faultSaid, Zoned, zoneSaid, zoneOf}
+use Rattle.geometry.specs.declared.edges.Crossing.the-variants.{None, Up, Down}
+use Rattle.geometry.specs.declared.zones.Counts.{Counts}
+use Rattle.geometry.specs.declared.zones.Fault.the-variants.{None as FaultNone, At as FaultAt}
+use Rattle.geometry.specs.declared.answer.Place.{Place}
+use Rattle.geometry.specs.declared.answer.Place.the-variants.{Outside, Border, Inside}
+use Rattle.geometry.specs.declared.answer.Zone.{Zone}
+use Rattle.geometry.specs.declared.answer.Zone.the-variants.{At, Refused}
+use Rattle.geometry.proofs.Laws.Edges.{edges-drop, edges-length}
+
+-- ---- the count
+-- no edge counts upward and downward
+not-both : (x c y f : Bool) → (c && f) ≡ false → ((x && c) && (y && f)) ≡ false
+not-both false c y f h = refl
+not-both true false y f h = refl
+not-both true true true f h = h
+not-both true true false f h = refl
+
+one-sign : (z : ℤ) → (isPositive z && isNegative z) ≡ false
+one-sign (pos zero) = refl
+one-sign (pos (suc n)) = refl
+one-sign (negsuc n) = refl
+
+crossing-once : (e : Edge) (p : Point) → (isUp e p && isDown e p) ≡ false
+unfolding isUp isDown
+crossing-once e p =
+    not-both (le (e .from .y) (p .y) && lt (p .y) (e .to .y)) (isPositive (sideOfEdge e p))
+    (le (e .to .y) (p .y) && lt (p .y) (e .from .y)) (isNegative (sideOfEdge e p)) (one-sign (sideOfEdge e p))
+
+-- an edge adds to one count, or to none
+abbrev counts : ℕ → ℕ → Counts
+counts m n = record { ups = m; downs = n }
+
+edge-adds : (u d : Bool) (m n : ℕ) → (u && d) ≡ false
+    → withEdge (counts m n) (cond u Up (cond d Down None)) ≡ counts (cond u 1 0 + m) (cond d 1 0 + n)
+edge-adds true true m n h = absurd (subst T h tt)
+edge-adds true false m n h = ap₂ counts (omega arith) (omega arith)
+edge-adds false true m n h = ap₂ counts (omega arith) (omega arith)
+edge-adds false false m n h = ap₂ counts (omega arith) (omega arith)
+
+counts-turn : (e : Edge) (es : List Edge) (p : Point) → withEdge (countsOf es p) (crossingOf e p) ≡ countsOf (e ∷ es) p
+unfolding countOf
+counts-turn e es p = edge-adds (isUp e p) (isDown e p) (countOf isUp es p) (countOf isDown es p) (crossing-once e p)
+
+count-most : (is : Edge → Point → Bool) (es : List Edge) (p : Point) → countOf is es p ≤ length es
+unfolding countOf
+count-most is [] p = le-refl 0
+count-most is (e ∷ es) p = go (is e p) (count-most is es p)
+  where
+    go : (b : Bool) → countOf is es p ≤ length es → cond b 1 0 + countOf is es p ≤ suc (length es)
+    go true h = omega arith
+    go false h = omega arith
+
+-- ---- the place
+-- what is answered off the border, and by the walk from edge k on
+abbrev pub offBorder : List Edge → Point → Place
+offBorder es p = parity (countOf isUp es p + countOf isDown es p)
+
+abbrev pub walkFrom : List Float → Point → ℕ → Place
+walkFrom xs p k = walk k (drop k (edgesOf (cornersOf xs))) p (offBorder (edgesOf (cornersOf xs)) p)
+
+pub walk-start : (xs : List Float) (p : Point) → walkFrom xs p 0 ≡ placeOf (edgesOf (cornersOf xs)) p
+unfolding placeOf
+walk-start xs p = refl
+
+module _ (es : List Edge) (p : Point) (t : Counts) (e : t ≡ countsOf es p) where
+  pub off-inside : (t .ups + t .downs) % 2 ≡ 1 → Inside ≡ offBorder es p
+  off-inside h =
+      let i : Inside ≡ parity (t .ups + t .downs) = rw (eq-eqb ((t .ups + t .downs) % 2) 1 h) in
+      i ∙ ap (λ (t : Counts). parity (t .ups + t .downs)) e
+
+  pub off-outside : ((t .ups + t .downs) % 2 ≡ 1 → ⊥) → Outside ≡ offBorder es p
+  off-outside h =
+      let o : Outside ≡ parity (t .ups + t .downs) = rw (ne-eqb ((t .ups + t .downs) % 2) 1 h) in
+      o ∙ ap (λ (t : Counts). parity (t .ups + t .downs)) e
+
+-- ---- the edges of a flat list, from edge k on
+-- a corner's next one is a corner
+pub next-inside : (k n : ℕ) → k < n → nextOf n k < n
+next-inside k n h = go (ltb (k + 1) n) refl
+  where
+    go : (b : Bool) → ltb (k + 1) n ≡ b → cond b (k + 1) 0 < n
+    go true e = ltb-true (k + 1) n e
+    go false e = omega arith
+
+module _ (xs : List Float) (n : ℕ) (p : Point) (size : length xs ≡ 2 * n) where
+  abbrev at : ℕ → Edge
+  at k = edge (cornerAt xs k) (cornerAt xs (nextOf n k))
+
+  row-end : (k : ℕ) → n ≤ k → drop k (edgesOf (cornersOf xs)) ≡ []
+  row-end k h =
+      let l : length (edgesOf (cornersOf xs)) ≤ k = omega (arith, edges-length xs n size) in
+      drop-of-length-le (edgesOf (cornersOf xs)) l
+
+  -- the count goes from the last edge to the first
+  pub counts-end : counts 0 0 ≡ countsOf (drop n (edgesOf (cornersOf xs))) p
+  unfolding countOf
+  counts-end = sym (ap (λ (es : List Edge). countsOf es p) (row-end n (le-refl n)))
+
+  pub counts-before : (j k : ℕ) → k ≡ j + 1 → j < n
+      → withEdge (countsOf (drop k (edgesOf (cornersOf xs))) p) (crossingOf (edge (cornerAt xs j) (cornerAt xs (nextOf n j))) p)
+      ≡ countsOf (drop j (edgesOf (cornersOf xs))) p
+  counts-before j k e h =
+      ap (λ (i : ℕ). withEdge (countsOf (drop i (edgesOf (cornersOf xs))) p) (crossingOf (at j) p)) e
+      ∙ counts-turn (at j) (drop (j + 1) (edgesOf (cornersOf xs))) p
+      ∙ ap (λ (es : List Edge). countsOf es p) (sym (edges-drop xs n j size h))
+
+  pub count-few : (is : Edge → Point → Bool) (k : ℕ) → countOf is (drop k (edgesOf (cornersOf xs))) p ≤ n
+  count-few is k =
+      let es = edgesOf (cornersOf xs) in
+      omega (arith, count-most is (drop k es) p, length-drop k es, edges-length xs n size)
+
+  -- the walk goes from the first edge to the last
+  pub walk-here : (k : ℕ) → k < n → onEdge (edge (cornerAt xs k) (cornerAt xs (nextOf n k))) p ≡ true → walkFrom xs p k ≡ Border k
+  unfolding walk
+  walk-here k h e = rw (edges-drop xs n k size h, e)
+
+  pub walk-later : (k : ℕ) → k < n → onEdge (edge (cornerAt xs k) (cornerAt xs (nextOf n k))) p ≡ false
+      → walkFrom xs p k ≡ walkFrom xs p (k + 1)
+  unfolding walk
+  walk-later k h e = rw (edges-drop xs n k size h, e)
+
+  pub walk-end : (k : ℕ) → n ≤ k → walkFrom xs p k ≡ offBorder (edgesOf (cornersOf xs)) p
+  unfolding walk
+  walk-end k h = rw (row-end k h)
+
+-- ---- the search for a coordinate that is not accepted; the first entry has place d
+module _ {A : Type 0} (d : ℕ) (xs : List Float) (answer : A) (i : ℕ) where
+  pub accepting-here : i < length xs → acceptedOf (getD xs i nan) ≡ false
+      → acceptingFrom (i + d) (drop i xs) answer ≡ refuses notAccepted (i + d)
+  unfolding acceptingFrom
+  accepting-here h e = rw (drop-cons xs i nan h, e)
+
+  pub accepting-later : i < length xs → acceptedOf (getD xs i nan) ≡ true
+      → acceptingFrom (i + d) (drop i xs) answer ≡ acceptingFrom (i + 1 + d) (drop (i + 1) xs) answer
+  unfolding acceptingFrom
+  accepting-later h e = rw (drop-cons xs i nan h, e) (ap₂ (λ (j k : ℕ). acceptingFrom j (drop k xs) answer) places (sym (add-one i)))
+    where
+      places : i + d + 1 ≡ i + 1 + d
+      places = omega arith
+
+  pub accepting-end : length xs ≤ i → acceptingFrom (i + d) (drop i xs) answer ≡ answers answer
+  unfolding acceptingFrom
+  accepting-end h = rw (drop-of-length-le xs h)
+
+-- nothing is found: every entry is accepted
+abbrev faultFrom : ℕ → List Float → Outcome Unit
+faultFrom i xs = acceptingFrom i xs tt
+
+abbrev nothing : Outcome Unit
+nothing = answers tt
+
+accepting-all : (i : ℕ) (xs : List Float) → faultFrom i xs ≡ nothing → (k : ℕ) → k < length xs → acceptedOf (getD xs k nan) ≡ true
+unfolding acceptingFrom
+accepting-all i [] h k l = let z : ⊥ = omega arith in absurd z
+accepting-all i (x ∷ xs) h k l = go (acceptedOf x) refl (λ e. accepting-all (i + 1) xs e) h k l
+  where
+    go : (b : Bool) → acceptedOf x ≡ b
+        → (faultFrom (i + 1) xs ≡ nothing → (k : ℕ) → k < length xs → acceptedOf (getD xs k nan) ≡ true)
+        → cond b (faultFrom (i + 1) xs) (refuses notAccepted i) ≡ nothing
+        → (k : ℕ) → k < suc (length xs) → acceptedOf (getD (x ∷ xs) k nan) ≡ true
+    go true e later h zero l = e
+    go true e later h (suc k) l = later h k (omega arith)
+    go false e later h k l = let z : _≡_ {A = ℕ} 0 1 = cc in let w : ⊥ = omega arith in absurd w
+
+-- any other answer is given, or refused, where this one is
+withAnswer : {A : Type 0} → A → Outcome Unit → Outcome A
+withAnswer a (answers u) = answers a
+withAnswer a (refuses n p) = refuses n p
+
+accepting-with : {A : Type 0} (a : A) (i : ℕ) (xs : List Float) → acceptingFrom i xs a ≡ withAnswer a (faultFrom i xs)
+unfolding acceptingFrom withAnswer
+accepting-with a i [] = refl
+accepting-with a i (x ∷ xs) = go (acceptedOf x) (accepting-with a (i + 1) xs)
+  where
+    go : (b : Bool) → acceptingFrom (i + 1) xs a ≡ withAnswer a (faultFrom (i + 1) xs)
+        → cond b (acceptingFrom (i + 1) xs a) (refuses notAccepted i)
+        ≡ withAnswer a (cond b (faultFrom (i + 1) xs) (refuses notAccepted i))
+    go true ih = ih
+    go false ih = refl
+
+-- a zone that is not refused
+pub zone-zoned : (xs : List Float) → (length xs % 2 ≡ 1 → ⊥) → fewest ≤ length xs / 2 → length xs / 2 ≤ most
+    → faultSaid FaultNone ≡ cornersFault xs → Zoned xs (length xs / 2)
+unfolding faultSaid
+zone-zoned xs even some few h = record {
+  corners = omega arith;
+  some = some;
+  few = few;
+  accepted = λ k l. record {
+    x = accepting-all 2 xs (sym h) (2 * k) (omega arith);
+    y = accepting-all 2 xs (sym h) (2 * k + 1) (omega arith);
+  };
+}
+
+-- ---- the refusals in their order
+module _ (xs : List Float) (p : Point) where
+  abbrev placed : Place
+  placed = placeOf (edgesOf (cornersOf xs)) p
+
+  pub zone-odd : length xs % 2 ≡ 1 → refuses oddLength 0 ≡ zoneOf xs p
+  unfolding zoneOf
+  zone-odd h = rw (eq-eqb (length xs % 2) 1 h)
+
+  module _ (even : length xs % 2 ≡ 1 → ⊥) where
+    pub zone-small : length xs / 2 < fewest → refuses tooFewCorners 0 ≡ zoneOf xs p
+    unfolding zoneOf
+    zone-small h = rw (ne-eqb (length xs % 2) 1 even, lt-ltb (length xs / 2) fewest h)
+
+    module _ (some : fewest ≤ length xs / 2) where
+      pub zone-large : most < length xs / 2 → refuses tooMany 0 ≡ zoneOf xs p
+      unfolding zoneOf
+      zone-large h = rw (ne-eqb (length xs % 2) 1 even, le-ltb (length xs / 2) fewest some, lt-ltb most (length xs / 2) h)
+
+      module _ (few : length xs / 2 ≤ most) where
+        judged : acceptingFrom 0 (p .x ∷ p .y ∷ xs) placed ≡ zoneOf xs p
+        unfolding zoneOf
+        judged = rw (ne-eqb (length xs % 2) 1 even, le-ltb (length xs / 2) fewest some, le-ltb most (length xs / 2) few)
+
+        pub zone-x : acceptedOf (p .x) ≡ false → refuses notAccepted 0 ≡ zoneOf xs p
+        unfolding acceptingFrom
+        zone-x h = let e : refuses notAccepted 0 ≡ acceptingFrom 0 (p .x ∷ p .y ∷ xs) placed = rw h in e ∙ judged
+
+        pub zone-y : acceptedOf (p .x) ≡ true → acceptedOf (p .y) ≡ false → refuses notAccepted 1 ≡ zoneOf xs p
+        unfolding acceptingFrom
+        zone-y h k = let e : refuses notAccepted 1 ≡ acceptingFrom 0 (p .x ∷ p .y ∷ xs) placed = rw (h, k) in e ∙ judged
+
+        module _ (point : Accepted p) where
+          corners-judged : withAnswer placed (cornersFault xs) ≡ zoneOf xs p
+          unfolding acceptingFrom
+          corners-judged =
+              let e : acceptingFrom 2 xs placed ≡ acceptingFrom 0 (p .x ∷ p .y ∷ xs) placed = rw (point .x, point .y) in
+              sym (accepting-with placed 2 xs) ∙ e ∙ judged
+
+          pub zone-corner : (r : Refusal) → faultSaid (FaultAt r) ≡ cornersFault xs → zoneSaid (Refused r) ≡ zoneOf xs p
+          unfolding faultSaid zoneSaid withAnswer
+          zone-corner r h = ap (withAnswer placed) h ∙ corners-judged
+
+          pub zone-place : faultSaid FaultNone ≡ cornersFault xs → (place : Place) → place ≡ placed → zoneSaid (At place) ≡ zoneOf xs p
+          unfolding faultSaid zoneSaid withAnswer
+          zone-place h place e = ap answers e ∙ ap (withAnswer placed) h ∙ corners-judged
+
+-- ---- no two results satisfy the promise
+said-once : (a b : Zone) → zoneSaid a ≡ zoneSaid b → a ≡ b
+unfolding zoneSaid
+said-once (At m) (At n) e = cc
+said-once (At m) (Refused r) e = cc
+said-once (Refused r) (At n) e = cc
+said-once (Refused r) (Refused q) e = ap Refused (refuses-once r q e)
+
+pub zone-fixed : (xs : List Float) (p : Point) → Fixes (λ (z : Zone). zoneSaid z ≡ zoneOf xs p)
+zone-fixed xs p a b h k = said-once a b (h ∙ sym k)

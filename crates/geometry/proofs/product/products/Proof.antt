@@ -1,0 +1,80 @@
+-- `product::products` meets its contract: coordinates of accepted points, and their negations, may be multiplied. Assumes nothing.
+use mathlib.Core.Path.{_≡_, sym, subst}
+use mathlib.Core.Bool.{Bool, true}
+use mathlib.Core.List.{List, [], _∷_}
+use lib.Dec.{T, lit≤}
+use lib.Ieee.{Float}
+use Rattle.point.specs.Accepted.{reach}
+use Rattle.geometry.proofs.Laws.Product.{Within, accepted-within, reach-neg, reach-factors}
+use Rattle.geometry.proofs.product.products.Statement.{statement}
+use Rattle.geometry.proofs.product.products.Tie as tie
+use Rattle.geometry.proofs.product.products.Reads as reads
+use Rattle.geometry.proofs.product.products.Lts as lts
+use Rattle.geometry.proofs.product.exact_product.Reads as exact-product-reads
+
+-- what owning a point tells: the format holds its coordinates
+held : {b : Bool} → b ≡ true → T b
+held e = subst T (sym e) tt
+
+p-within : (c : tie.Start) → Within reach (c .args .p)
+p-within c = accepted-within (c .args .p) (held (c .good .0 .1 .1 .0 .1)) (held (c .good .0 .1 .1 .1 .0 .1)) (c .pre .0)
+
+q-within : (c : tie.Start) → Within reach (c .args .q)
+q-within c = accepted-within (c .args .q) (held (c .good .1 .0 .1 .1 .0 .1)) (held (c .good .1 .0 .1 .1 .1 .0 .1)) (c .pre .1)
+
+r-within : (c : tie.Start) → Within reach (c .args .r)
+r-within c = accepted-within (c .args .r) (held (c .good .1 .1 .0 .1 .1 .0 .1)) (held (c .good .1 .1 .0 .1 .1 .1 .0 .1)) (c .pre .2)
+
+exact-product-requires : tie.Need-exact-product-requires
+exact-product-requires c κs = reach-factors reach (lit≤ tt) _ _ (q-within c .x) (r-within c .y)
+
+exact-product-requires-2 : tie.Need-exact-product-requires-2
+exact-product-requires-2 c κs =
+    let s = c .before .before in
+    reach-factors reach (lit≤ tt) _ _ (reach-neg reach _ (q-within s .x)) (p-within s .y)
+
+exact-product-requires-3 : tie.Need-exact-product-requires-3
+exact-product-requires-3 c κs =
+    let s = c .before .before .before .before in
+    reach-factors reach (lit≤ tt) _ _ (reach-neg reach _ (p-within s .x)) (r-within s .y)
+
+exact-product-requires-4 : tie.Need-exact-product-requires-4
+exact-product-requires-4 c κs =
+    let s = c .before .before .before .before .before .before in
+    reach-factors reach (lit≤ tt) _ _ (reach-neg reach _ (q-within s .y)) (r-within s .x)
+
+exact-product-requires-5 : tie.Need-exact-product-requires-5
+exact-product-requires-5 c κs =
+    let s = c .before .before .before .before .before .before .before in
+    reach-factors reach (lit≤ tt) _ _ (q-within s .y) (p-within s .x)
+
+exact-product-requires-6 : tie.Need-exact-product-requires-6
+exact-product-requires-6 c κs =
+    let s = c .before .before .before .before .before .before .before .before in
+    reach-factors reach (lit≤ tt) _ _ (p-within s .y) (r-within s .x)
+
+six : {a b c d e f t u v w x y : List Float} → a ≡ t → b ≡ u → c ≡ v → d ≡ w → e ≡ x → f ≡ y
+    → a ∷ b ∷ c ∷ d ∷ e ∷ f ∷ [] ≡ t ∷ u ∷ v ∷ w ∷ x ∷ y ∷ []
+six p q r s t u = cc
+
+returns : tie.Need-returns
+returns c =
+    six
+    (c .before .before .before .before .before .before .before .before .exact-product .ensures .pair-is)
+    (c .before .before .before .before .before .before .exact-product2 .ensures .pair-is)
+    (c .before .before .before .before .exact-product3 .ensures .pair-is)
+    (c .before .before .exact-product4 .ensures .pair-is)
+    (c .before .exact-product5 .ensures .pair-is)
+    (c .exact-product6 .ensures .pair-is)
+
+pub products-spec : {M : Type 1} → statement M
+products-spec =
+    tie.close
+    (tie.spec
+    exact-product-requires
+    exact-product-requires-2
+    exact-product-requires-3
+    exact-product-requires-4
+    exact-product-requires-5
+    exact-product-requires-6
+    returns)

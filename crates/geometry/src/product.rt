@@ -1,0 +1,76 @@
+// Exact products: a rounded product and its roundoff, by a splitting constant and subtractions. (Veltkamp 1968, Dekker 1971.)
+ghost use mathlib.Core.Path.{_≡_};
+ghost use Rattle.double.proofs.Laws.Splitting.{highHalf};
+ghost use Rattle.geometry.specs.Product.{Factors, ExactProduct, productsOf, flatOf, summandsOf};
+ghost use Rattle.geometry.specs.Side.{Accepted};
+use point::Point;
+
+// 2^27 + 1 parts 53 digits into two halves.
+const SPLITTER: f64 = 134217729.0;
+
+fn high_half(x: f64) -> f64
+    ensures { λ r. ⌜ r ≡ highHalf x ⌝ }
+{
+    let wide = SPLITTER * x;
+    let rest = wide - x;
+    wide - rest
+}
+
+// The rounded product of x and y, and what it lacks of the exact one.
+fn exact_product(x: f64, y: f64) -> [f64; 2]
+    requires { ⌜ Factors x y ⌝ }
+    ensures { λ r. ⌜ ExactProduct x y r ⌝ }
+{
+    let rounded = x * y;
+    let xh = high_half(x);
+    let yh = high_half(y);
+    let xl = x - xh;
+    let yl = y - yh;
+    let one = rounded - xh * yh;
+    let two = one - xl * yh;
+    let three = two - xh * yl;
+    // The last difference can be -0: a roundoff of nothing is +0.
+    let roundoff = xl * yl - three + 0.0;
+    [rounded, roundoff]
+}
+
+// The six products of the determinant, each with its roundoff.
+fn products(p: Point, q: Point, r: Point) -> [[f64; 2]; 6]
+    requires { ⌜ Accepted p × Accepted q × Accepted r ⌝ }
+    ensures { λ pairs. ⌜ pairs ≡ productsOf p q r ⌝ }
+{
+    let a = exact_product(q.x, r.y);
+    let b = exact_product(-q.x, p.y);
+    let c = exact_product(-p.x, r.y);
+    let d = exact_product(-q.y, r.x);
+    let e = exact_product(q.y, p.x);
+    let f = exact_product(p.y, r.x);
+    [a, b, c, d, e, f]
+}
+
+fn flattened(s: [[f64; 2]; 6]) -> [f64; 12]
+    ensures { λ r. ⌜ r ≡ flatOf s ⌝ }
+{
+    [
+        s[0][0],
+        s[0][1],
+        s[1][0],
+        s[1][1],
+        s[2][0],
+        s[2][1],
+        s[3][0],
+        s[3][1],
+        s[4][0],
+        s[4][1],
+        s[5][0],
+        s[5][1],
+    ]
+}
+
+// The twelve summands whose total is the determinant.
+pub fn summands(p: Point, q: Point, r: Point) -> [f64; 12]
+    requires { ⌜ Accepted p × Accepted q × Accepted r ⌝ }
+    ensures { λ list. ⌜ list ≡ summandsOf p q r ⌝ }
+{
+    flattened(products(p, q, r))
+}

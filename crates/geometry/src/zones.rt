@@ -1,0 +1,167 @@
+// The zone test.
+ghost use mathlib.Core.Path.{_≡_};
+ghost use Prim.Native.Nat.{_+_, _*_, _≤_, _<_};
+ghost use lib.ListN.{length};
+ghost use Rattle.geometry.specs.Side.{Accepted};
+ghost use Rattle.geometry.specs.Zone.{Zoned, cornerAt, nextOf, withEdge, countsOf, cornersFault, faultSaid};
+ghost use Rattle.geometry.specs.Zone.{cornersOf, edgesOf, placeOf, zoneOf, zoneSaid};
+use crate::answer::Place;
+use crate::answer::Zone;
+use crate::edges::Crossing;
+use crate::edges::crosses;
+use crate::edges::on_edge;
+use double::refusal::NOT_ACCEPTED;
+use double::refusal::ODD_LENGTH;
+use double::refusal::Refusal;
+use double::refusal::TOO_FEW_CORNERS;
+use double::refusal::TOO_MANY;
+use point::Point;
+use point::accepted;
+
+// A zone has 3 to 64 corners.
+const FEWEST: usize = 3;
+
+const MOST: usize = 64;
+
+fn corner_at(corners: &[f64], k: usize) -> Point
+    requires { ⌜ (k < 64) × (2 * k + 1 < length (now corners)) ⌝ }
+    ensures { λ p. ⌜ p ≡ cornerAt (now (corners .entry)) k ⌝ }
+{
+    Point {
+        x: corners[2 * k],
+        y: corners[2 * k + 1],
+    }
+}
+
+// The corner after corner k of n.
+fn next_of(n: usize, k: usize) -> usize
+    requires { ⌜ k < 64 ⌝ }
+    ensures { λ r. ⌜ r ≡ nextOf n k ⌝ }
+{
+    if k + 1 < n { k + 1 } else { 0 }
+}
+
+// How many edges count upward, and how many downward.
+struct Counts {
+    ups: usize,
+    downs: usize,
+}
+
+fn with_edge(c: Counts, crossing: Crossing) -> Counts
+    requires { ⌜ (c .ups ≤ 64) × (c .downs ≤ 64) ⌝ }
+    ensures { λ r. ⌜ r ≡ withEdge c crossing ⌝ }
+{
+    match crossing {
+        Crossing::None => c,
+        Crossing::Up => Counts {
+            ups: c.ups + 1,
+            downs: c.downs,
+        },
+        Crossing::Down => Counts {
+            ups: c.ups,
+            downs: c.downs + 1,
+        },
+    }
+}
+
+// All edges, from the last to the first.
+fn counted(corners: &[f64], n: usize, p: Point) -> Counts
+    requires { ⌜ Zoned (now corners) n × Accepted p ⌝ }
+    ensures { λ r. ⌜ r ≡ countsOf (edgesOf (cornersOf (now (corners .entry)))) p ⌝ }
+{
+    let mut c = Counts { ups: 0, downs: 0 };
+    let mut k = n;
+    while 0 < k {
+        k -= 1;
+        let a = corner_at(corners, k);
+        let b = corner_at(corners, next_of(n, k));
+        c = with_edge(c, crosses(a, b, p));
+    }
+    c
+}
+
+// The place of an accepted point: the walk ends at the first edge that it is on, or goes on to the count.
+fn place(corners: &[f64], n: usize, p: Point) -> Place
+    requires { ⌜ Zoned (now corners) n × Accepted p ⌝ }
+    ensures { λ r. ⌜ r ≡ placeOf (edgesOf (cornersOf (now (corners .entry)))) p ⌝ }
+{
+    let mut k: usize = 0;
+    let edge = loop {
+        if n <= k {
+            break n;
+        }
+        let a = corner_at(corners, k);
+        let b = corner_at(corners, next_of(n, k));
+        if on_edge(a, b, p) {
+            break k;
+        }
+        k += 1;
+    };
+    if edge < n {
+        return Place::Border(edge);
+    }
+    let c = counted(corners, n, p);
+    if (c.ups + c.downs) % 2 == 1 {
+        return Place::Inside;
+    }
+    Place::Outside
+}
+
+// What is wrong with the coordinates.
+enum Fault {
+    None,
+    At(Refusal),
+}
+
+// Refusal 3 at the first corner's coordinate that is not accepted, from place 2.
+fn corner_fault(corners: &[f64]) -> Fault
+    requires { ⌜ length (now corners) ≤ 128 ⌝ }
+    ensures { λ r. ⌜ faultSaid r ≡ cornersFault (now (corners .entry)) ⌝ }
+{
+    let mut i: usize = 0;
+    while i < corners.len() {
+        if !accepted(corners[i]) {
+            return Fault::At(Refusal {
+                number: NOT_ACCEPTED,
+                place: i + 2,
+            });
+        }
+        i += 1;
+    }
+    Fault::None
+}
+
+fn refused(number: u32, place: usize) -> Zone
+    ensures { λ z. ⌜ z ≡ Zone.Refused (record { number = number; place = place }) ⌝ }
+{
+    Zone::Refused(Refusal {
+        number: number,
+        place: place,
+    })
+}
+
+// Whether p is outside the zone, on its border or inside.
+pub fn zone(corners: &[f64], p: Point) -> Zone
+    ensures { λ z. ⌜ zoneSaid z ≡ zoneOf (now (corners .entry)) p ⌝ }
+{
+    if corners.len() % 2 == 1 {
+        return refused(ODD_LENGTH, 0);
+    }
+    let n = corners.len() / 2;
+    if n < FEWEST {
+        return refused(TOO_FEW_CORNERS, 0);
+    }
+    if MOST < n {
+        return refused(TOO_MANY, 0);
+    }
+    if !accepted(p.x) {
+        return refused(NOT_ACCEPTED, 0);
+    }
+    if !accepted(p.y) {
+        return refused(NOT_ACCEPTED, 1);
+    }
+    match corner_fault(corners) {
+        Fault::At(r) => Zone::Refused(r),
+        Fault::None => Zone::At(place(corners, n, p)),
+    }
+}

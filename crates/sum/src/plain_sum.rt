@@ -1,0 +1,38 @@
+// The plain sum: the sign of the exact total, in whole numbers. The list is only read.
+ghost use mathlib.Core.Path.{_≡_};
+ghost use Rattle.sum.specs.Plain.{plainSaid, plainOf};
+use crate::answer::Plain;
+use crate::fault::LIMIT;
+use crate::words::WORDS;
+use crate::words::put;
+use crate::words::sign_of;
+use double::answer::Taken;
+use double::refusal::NOT_FINITE;
+use double::refusal::Refusal;
+use double::refusal::TOO_MANY;
+use double::take_apart;
+
+// The sign of the list's total. One pass: an entry that has no parts is the first that is not finite.
+pub fn plain(list: &[f64]) -> Plain
+    ensures { λ r. ⌜ plainSaid r ≡ plainOf (now (list .entry)) ⌝ }
+{
+    if LIMIT < list.len() {
+        return Plain::Refused(Refusal {
+            number: TOO_MANY,
+            place: 0,
+        });
+    }
+    let mut words = [0u64; WORDS];
+    let mut i: usize = 0;
+    while i < list.len() {
+        let Taken::Apart(p) = take_apart(list[i]) else {
+            return Plain::Refused(Refusal {
+                number: NOT_FINITE,
+                place: i,
+            });
+        };
+        put(&mut words, p);
+        i += 1;
+    }
+    Plain::Signed(sign_of(&words))
+}

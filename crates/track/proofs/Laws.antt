@@ -1,0 +1,25 @@
+-- The laws of the track file, each file over those above it.
+-- what is judged after an answer, and after a refusal
+pub mod Judged
+-- a number as it is written
+pub mod Written
+-- the number that any bytes begin with
+pub mod Number
+-- the bytes of a number that was read
+pub mod Taken
+-- the difference of two patterns
+pub mod Difference
+-- one coordinate of a file
+pub mod Coordinate
+-- the bytes of a list of points
+pub mod File
+-- what the writer answers
+pub mod Write
+-- what the reader answers
+pub mod Read
+-- reading what was written, and writing what was read
+pub mod RoundTrip
+-- the first bytes of a file
+pub mod First
+-- what the two public calls promise together
+pub mod Calls

@@ -1,0 +1,217 @@
+-- Writing and reading undo one another. In order: one coordinate and a list of them read back; the bytes of coordinates that were read;
+-- reading what was written, and writing what was read. Not here: one number (Laws.Number, Laws.Taken), one difference (Laws.Difference).
+-- Assumes nothing.
+use Prim.Native.Nat.{ℕ, zero, suc, _+_, _-_, _*_, _/_, _%_, _^_, _≤_, _<_}
+use mathlib.Core.Path.{_≡_, refl, sym, ap, _∙_, subst}
+use mathlib.Core.Bool.{true, false}
+use mathlib.Core.List.{List, [], _∷_, _++_}
+use native.Mathlib.Omega.{arith}
+use borrow.Author.Tests.{le-leb, leb-true, eqb-true}
+use lib.Dec.{T, eqb, leb}
+use lib.ListN.{length, drop, length-drop, drop-of-length-le}
+use lib.Seq.{drop-drop, drop-append-seam}
+use lib.Ieee.{Float, binary64, fits, ofBits, toBits}
+use lib.Ieee.Bits.{ofBits-toBits, toBits-ofBits, toBits-lt}
+use Rattle.double.specs.Outcome.{answers, oddLength, tooMany, notAccepted, noRoom, bytesAfter}
+use Rattle.point.specs.Accepted.{acceptedOf}
+use Rattle.track.specs.Number.{writtenOf, full, Bytes, beginsWith, placed, numberOf}
+use Rattle.track.specs.Difference.{storedOf, restoredOf}
+use Rattle.track.specs.File.{Doubles, coordinateBytes, fileOf, largest}
+use Rattle.track.specs.Write.{acceptedFrom, writeOf}
+use Rattle.track.specs.Coordinate.{judgedOf, coordinateOf}
+use Rattle.track.specs.Read.{coordinatesOf, countedOf, readOf}
+use Rattle.track.specs.declared.number.Number.{Number}
+use Rattle.track.specs.declared.coordinate.Coordinate.{Coordinate}
+use Rattle.track.proofs.Laws.Judged.{also-answers, require-holds, also-answered, require-answered}
+use Rattle.track.proofs.Laws.Number.{number-written}
+use Rattle.track.proofs.Laws.Taken.{number-read}
+use Rattle.track.proofs.Laws.Difference.{restored-stored, restored-below, stored-below, stored-restored}
+use Rattle.track.proofs.Laws.Coordinate.{accepted-number, judged-accepted, coordinate-judged}
+use Rattle.track.proofs.Laws.File.{file-length}
+use Rattle.track.proofs.Laws.Write.{write-whole}
+use Rattle.track.proofs.Laws.Read.{counted-read}
+
+-- ---- a written number, at its offset
+number-back : (file : List ℕ) (start v : ℕ) (rest : List ℕ) → v < 2 ^ 64 → drop start file ≡ writtenOf v ++ rest
+    → (answers (record { value = v; next = start + length (writtenOf v) }) ≡ numberOf file start)
+    × (drop (start + length (writtenOf v)) file ≡ rest)
+unfolding numberOf placed
+number-back file start v rest h e = (
+  sym (ap (placed start) (ap (beginsWith full false) e ∙ number-written v rest h)),
+  sym (drop-drop (length (writtenOf v)) start file) ∙ ap (drop (length (writtenOf v))) e ∙ drop-append-seam (writtenOf v) rest,
+)
+
+-- ---- a written coordinate
+coordinate-back : (file : List ℕ) (start before : ℕ) (x : Float) (rest : List ℕ) → before < 2 ^ 64 → T (fits binary64 x)
+    → acceptedOf x ≡ true
+    → drop start file ≡ writtenOf (storedOf (toBits binary64 x) before) ++ rest
+    → coordinateOf file start before
+    ≡ answers (record { value = x; pattern = toBits binary64 x; next = start + length (writtenOf (storedOf (toBits binary64 x) before)) })
+coordinate-back file start before x rest hb fit good e =
+    let p = toBits binary64 x in
+    let z = storedOf p before in
+    let next = start + length (writtenOf z) in
+    let hp : p < 2 ^ 64 = toBits-lt binary64 x fit in
+    let back : restoredOf z before ≡ p = restored-stored p before hp hb in
+    let same : ofBits binary64 p ≡ x = ofBits-toBits binary64 x fit in
+    let n = number-back file start z rest (stored-below p before hp hb) e in
+    sym (coordinate-judged file start before (record { value = z; next = next }) (n .0))
+    ∙ ap (λ (q : ℕ). judgedOf q start next) back
+    ∙ sym (judged-accepted p start next (ap acceptedOf same ∙ good))
+    ∙ ap (λ (y : Float). answers (record { value = y; pattern = p; next = next })) same
+
+coordinates-back : (points : List Float) (file : List ℕ) (start before other k : ℕ) → before < 2 ^ 64 → other < 2 ^ 64 → Doubles points
+    → acceptedFrom k points ≡ answers tt → drop start file ≡ coordinateBytes before other points
+    → coordinatesOf file start before other (length points) ≡ answers points
+unfolding coordinatesOf coordinateBytes acceptedFrom
+coordinates-back [] file start before other k hb ho fit good e =
+    let none : length file - start ≡ 0 = sym (length-drop start file) ∙ ap length e in
+    let over : length file ≤ start = omega arith in
+    require-holds bytesAfter start _ (le-leb _ _ over)
+coordinates-back (x ∷ xs) file start before other k hb ho fit good e =
+    let p = toBits binary64 x in
+    let z = storedOf p before in
+    let hp : p < 2 ^ 64 = toBits-lt binary64 x (fit 0) in
+    let rest = coordinateBytes other p xs in
+    let g = require-answered (acceptedOf x) notAccepted k _ good in
+    let n = number-back file start z rest (stored-below p before hp hb) e in
+    also-answers _ (coordinate-back file start before x rest hb (fit 0) (g .0) e)
+    ∙ also-answers _ (coordinates-back xs file (start + length (writtenOf z)) other p (suc k) ho hp (λ i. fit (suc i)) (g .1) (n .1))
+
+-- ---- a coordinate that was read
+record Coordinated (file : List ℕ) (start before : ℕ) (c : Coordinate) : Type 0 where
+  good : acceptedOf (c .value) ≡ true
+  bits : toBits binary64 (c .value) ≡ c .pattern
+  below : c .pattern < 2 ^ 64
+  same : drop start file ≡ writtenOf (storedOf (c .pattern) before) ++ drop (c .next) file
+
+coordinate-taken : (file : List ℕ) (start before : ℕ) (c : Coordinate) → Bytes file → before < 2 ^ 64
+    → coordinateOf file start before ≡ answers c
+    → Coordinated file start before c
+unfolding coordinateOf judgedOf
+coordinate-taken file start before c all hb e =
+    let a = also-answered (numberOf file start) _ e in
+    let m = a .0 in
+    let n = number-read file start m all (a .1) in
+    let p = restoredOf (m .value) before in
+    let hp : p < 2 ^ 64 = restored-below (m .value) before in
+    let g = require-answered (acceptedOf (ofBits binary64 p)) notAccepted start _ (a .2) in
+    let is : record { value = ofBits binary64 p; pattern = p; next = m .next } ≡ c = cc (g .1) in
+    subst (Coordinated file start before) is (record {
+      good = g .0;
+      bits = toBits-ofBits binary64 p hp (accepted-number (ofBits binary64 p) (g .0));
+      below = hp;
+      same = n .same ∙ ap (λ (z : ℕ). writtenOf z ++ drop (m .next) file) (sym (stored-restored (m .value) before (n .below) hb));
+    })
+
+-- coordinates that were read: n of them, accepted, and their bytes are the rest of the file
+record Decoded (file : List ℕ) (start before other n : ℕ) (points : List Float) : Type 0 where
+  many : length points ≡ n
+  good : (k : ℕ) → acceptedFrom k points ≡ answers tt
+  same : drop start file ≡ coordinateBytes before other points
+
+coordinates-taken : (n : ℕ) (file : List ℕ) (start before other : ℕ) (points : List Float) → Bytes file → before < 2 ^ 64 → other < 2 ^ 64
+    → coordinatesOf file start before other n ≡ answers points → Decoded file start before other n points
+unfolding coordinatesOf coordinateBytes acceptedFrom
+coordinates-taken zero file start before other points all hb ho e =
+    let g = require-answered (leb (length file) start) bytesAfter start _ e in
+    let none : [] ≡ points = cc (g .1) in
+    subst (Decoded file start before other 0) none
+    (record { many = refl; good = λ _. refl; same = drop-of-length-le file (leb-true (length file) start (g .0)) })
+coordinates-taken (suc n) file start before other points all hb ho e =
+    let a = also-answered (coordinateOf file start before) _ e in
+    let c = a .0 in
+    let one = coordinate-taken file start before c all hb (a .1) in
+    let b = also-answered (coordinatesOf file (c .next) other (c .pattern) n) _ (a .2) in
+    let xs = b .0 in
+    let rest = coordinates-taken n file (c .next) other (c .pattern) xs all ho (one .below) (b .1) in
+    let is : c .value ∷ xs ≡ points = cc (b .2) in
+    subst (Decoded file start before other (suc n)) is (record {
+      many = ap suc (rest .many);
+      good = λ k. require-holds notAccepted k _ (one .good) ∙ rest .good (suc k);
+      same = one .same ∙ ap (λ (z : List ℕ). writtenOf (storedOf (c .pattern) before) ++ z) (rest .same)
+          ∙ sym (ap (λ (p : ℕ). writtenOf (storedOf p before) ++ coordinateBytes other p xs) (one .bits));
+    })
+
+-- ---- both ways, for at most `most` points
+module _ (most : ℕ) where
+  -- what an accepted list tells
+  record Listed (points : List Float) (file : List ℕ) : Type 0 where
+    even : length points % 2 ≡ 0
+    few : length points ≤ 2 * most
+    good : acceptedFrom 0 points ≡ answers tt
+    same : fileOf points ≡ file
+
+  write-listed : (points : List Float) (room : ℕ) (file : List ℕ) → writeOf most points room ≡ answers file → Listed points file
+  unfolding writeOf
+  write-listed points room file e =
+      let even = require-answered (eqb (length points % 2) 0) oddLength 0 _ e in
+      let few = require-answered (leb (length points) (2 * most)) tooMany 0 _ (even .1) in
+      let good = also-answered (acceptedFrom 0 points) _ (few .1) in
+      let fill = require-answered (leb (length (fileOf points)) room) noRoom 0 _ (good .2) in
+      record {
+        even = eqb-true (length points % 2) 0 (even .0);
+        few = leb-true (length points) (2 * most) (few .0);
+        good = good .1;
+        same = (cc (fill .1));
+      }
+
+  -- A file is no longer than `largest most`.
+  pub write-length : (points : List Float) (room : ℕ) (file : List ℕ) → writeOf most points room ≡ answers file → length file ≤ largest most
+  write-length points room file e =
+      let l = write-listed points room file e in
+      omega (arith, file-length most points (l .few), ap length (l .same))
+
+  -- Reading what was written gives the same points: the same doubles, each known by its pattern (-0 and +0 are two), and as many.
+  pub read-write : most < 2 ^ 64 → (points : List Float) (room : ℕ) (file : List ℕ) (space : ℕ) → Doubles points
+      → writeOf most points room ≡ answers file → length points ≤ space → readOf most file space ≡ answers points
+  unfolding readOf fileOf
+  read-write hm points room file space fit e h =
+      let l = write-listed points room file e in
+      let v = length points / 2 in
+      let few : v ≤ most = omega (arith, l .few) in
+      let twice : 2 * v ≡ length points = omega (arith, l .even) in
+      let start = 0 + length (writtenOf v) in
+      let n = number-back file 0 v (coordinateBytes 0 0 points) (omega arith) (sym (l .same)) in
+      also-answers (λ (z : Number). countedOf most file z space) (sym (n .0))
+      ∙ counted-read most file (record { value = v; next = start }) space few (omega arith)
+      ∙ ap (coordinatesOf file start 0 0) twice
+      ∙ coordinates-back points file start 0 0 0 (omega arith) (omega arith) fit (l .good) (n .1)
+
+  -- An accepted file is the file of its points, which the writer accepts.
+  read-accepted : (file : List ℕ) (room : ℕ) (points : List Float) → Bytes file → readOf most file room ≡ answers points
+      → Listed points file
+  unfolding readOf countedOf fileOf
+  read-accepted file room points all e =
+      let a = also-answered (numberOf file 0) _ e in
+      let m = a .0 in
+      let few = require-answered (leb (m .value) most) tooMany 0 _ (a .2) in
+      let fill = require-answered (leb (2 * m .value) room) noRoom 0 _ (few .1) in
+      let n = number-read file 0 m all (a .1) in
+      let d = coordinates-taken (2 * m .value) file (m .next) 0 0 points all (omega arith) (omega arith) (fill .1) in
+      let half : length points / 2 ≡ m .value = omega (arith, d .many) in
+      let within : m .value ≤ most = leb-true (m .value) most (few .0) in
+      record {
+        even = omega (arith, d .many);
+        few = omega (arith, d .many);
+        good = d .good 0;
+        same = ap (λ (v : ℕ). writtenOf v ++ coordinateBytes 0 0 points) half
+            ∙ ap (λ (z : List ℕ). writtenOf (m .value) ++ z) (sym (d .same)) ∙ sym (n .same);
+      }
+
+  -- Every accepted file is what the writer writes for the points it holds, where there is room.
+  pub write-read : (file : List ℕ) (room : ℕ) (points : List Float) → Bytes file → readOf most file room ≡ answers points
+      → (space : ℕ) → length file ≤ space → writeOf most points space ≡ answers file
+  write-read file room points all e space h =
+      let a = read-accepted file room points all e in
+      write-whole most points space (a .even) (a .few) (a .good) (omega (arith, ap length (a .same))) ∙ ap answers (a .same)
+
+  pub points-even : (file : List ℕ) (room : ℕ) (points : List Float) → Bytes file → readOf most file room ≡ answers points
+      → length points % 2 ≡ 0
+  points-even file room points all e = read-accepted file room points all e .even
+
+  -- So no two files hold the same points.
+  pub file-once : (a b : List ℕ) (roomA roomB : ℕ) (points : List Float) → Bytes a → Bytes b
+      → readOf most a roomA ≡ answers points → readOf most b roomB ≡ answers points → a ≡ b
+  file-once a b roomA roomB points allA allB p q =
+      sym (read-accepted a roomA points allA p .same) ∙ read-accepted b roomB points allB q .same

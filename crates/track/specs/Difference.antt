@@ -1,0 +1,34 @@
+-- The difference of two patterns, as the track file stores it, by 01's section 'The track file'.
+use Prim.Native.Nat.{ℕ, _+_, _-_, _*_, _/_, _%_, _^_}
+use mathlib.Core.Bool.{cond}
+use lib.Dec.{eqb, ltb}
+use lib.IntN.{ℤ, pos, negsuc}
+
+-- "the 64-bit pattern minus the preceding pattern of that axis, wrapping at 2^64"
+abbrev pub difference : ℕ → ℕ → ℕ
+difference pattern before = (pattern + (2 ^ 64 - before)) % 2 ^ 64
+
+-- "read as signed d": p below 2^63 is itself, any other is p - 2^64 (`negsuc n` is -(n+1))
+abbrev pub signed : ℕ → ℤ
+signed p = cond (ltb p (2 ^ 63)) (pos p) (negsuc (2 ^ 64 - 1 - p))
+
+-- "stored as 2d for d ≥ 0 and as -2d-1 for d < 0"
+abbrev pub folded : ℤ → ℕ
+folded (pos n) = 2 * n
+folded (negsuc n) = 2 * n + 1
+
+unfoldable pub storedOf : ℕ → ℕ → ℕ
+storedOf pattern before = folded (signed (difference pattern before))
+
+-- the d of a stored number
+abbrev pub unfolded : ℕ → ℤ
+unfolded number = cond (eqb (number % 2) 0) (pos (number / 2)) (negsuc (number / 2))
+
+-- d as a 64-bit pattern
+abbrev pub unsigned : ℤ → ℕ
+unsigned (pos n) = n
+unsigned (negsuc n) = 2 ^ 64 - 1 - n
+
+-- the pattern that a stored number and the preceding pattern stand for
+unfoldable pub restoredOf : ℕ → ℕ → ℕ
+restoredOf number before = (unsigned (unfolded number) + before) % 2 ^ 64

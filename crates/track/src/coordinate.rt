@@ -1,0 +1,64 @@
+// One coordinate of a file: the leaf of every reading of tracks.
+ghost use mathlib.Core.Path.{_≡_};
+ghost use Rattle.double.specs.Outcome.{refuses, notAccepted};
+ghost use Rattle.track.specs.Coordinate.{heard, coordinateOf, judgedOf};
+use crate::difference::restored;
+use crate::number::Numeral;
+use crate::number::number_at;
+use double::refusal::NOT_ACCEPTED;
+use double::refusal::Refusal;
+
+// A coordinate: its value, its pattern as it is stored, and the offset after its number.
+pub struct Coordinate {
+    pub value: f64,
+    pub pattern: u64,
+    pub next: usize,
+}
+
+pub enum Located {
+    Whole(Coordinate),
+    // Refusal 6, 7 or 3 where the number begins.
+    Refused(Refusal),
+}
+
+// Above it, without the sign, stand the patterns of the NaNs.
+const INFINITE: u64 = 0x7FF0_0000_0000_0000;
+
+const SIGN: u64 = 0x8000_0000_0000_0000;
+
+fn refused(place: usize) -> Located
+    ensures { λ r. ⌜ heard r ≡ refuses notAccepted place ⌝ }
+{
+    Located::Refused(Refusal {
+        number: NOT_ACCEPTED,
+        place: place,
+    })
+}
+
+// The coordinate of a pattern whose number begins at `start` and ends before `next`.
+fn judged(pattern: u64, start: usize, next: usize) -> Located
+    ensures { λ r. ⌜ heard r ≡ judgedOf pattern start next ⌝ }
+{
+    if INFINITE < pattern % SIGN {
+        return refused(start);
+    }
+    let value = f64::from_bits(pattern);
+    if point::accepted(value) {
+        return Located::Whole(Coordinate {
+            value: value,
+            pattern: pattern,
+            next: next,
+        });
+    }
+    refused(start)
+}
+
+// The coordinate whose number begins at `start`, after the pattern `before` of its axis.
+pub fn coordinate_at(bytes: &[u8], start: usize, before: u64) -> Located
+    ensures { λ r. ⌜ heard r ≡ coordinateOf (now (bytes .entry)) start before ⌝ }
+{
+    match number_at(bytes, start) {
+        Numeral::Whole(n) => judged(restored(n.value, before), start, n.next),
+        Numeral::Refused(r) => Located::Refused(r),
+    }
+}

@@ -1,0 +1,118 @@
+// Numbers of a track file: unsigned 64-bit, in groups of seven bits, the lowest first, in shortest form.
+ghost use mathlib.Core.Path.{_≡_};
+ghost use Prim.Native.Nat.{_+_, _≤_};
+ghost use lib.ListN.{length};
+ghost use lib.Seq.{sets};
+ghost use Rattle.double.specs.Outcome.{refuses};
+ghost use Rattle.track.specs.Number.{heard, numberOf, writtenOf};
+use double::refusal::ENDS_EARLY;
+use double::refusal::NOT_SHORTEST;
+use double::refusal::Refusal;
+
+// A number, and the offset after it.
+pub struct Number {
+    pub value: u64,
+    pub next: usize,
+}
+
+pub enum Numeral {
+    Whole(Number),
+    // Refusal 6 or 7 where the number begins.
+    Refused(Refusal),
+}
+
+// A byte with its top bit set is followed by another of its number.
+const TOP: u64 = 128;
+
+// Groups of seven bits before the one bit that is left of 64.
+const FULL: usize = 9;
+
+fn wide(b: u8) -> u64
+    ensures { λ r. ⌜ r ≡ b ⌝ }
+{
+    b as u64
+}
+
+fn refused(number: u32, place: usize) -> Numeral
+    ensures { λ r. ⌜ heard r ≡ refuses number place ⌝ }
+{
+    Numeral::Refused(Refusal {
+        number: number,
+        place: place,
+    })
+}
+
+// The number that begins at `start`.
+pub fn number_at(bytes: &[u8], start: usize) -> Numeral
+    ensures { λ r. ⌜ heard r ≡ numberOf (now (bytes .entry)) start ⌝ }
+{
+    let mut value: u64 = 0;
+    let mut weight: u64 = 1;
+    let mut at = start;
+    let mut turn: usize = 0;
+    while turn < FULL {
+        if bytes.len() <= at {
+            return refused(ENDS_EARLY, start);
+        }
+        let b = wide(bytes[at]);
+        if b < TOP {
+            if b == 0 {
+                // A last group of 0 is the shortest form of 0 only.
+                if 0 < turn {
+                    return refused(NOT_SHORTEST, start);
+                }
+                return Numeral::Whole(Number {
+                    value: 0,
+                    next: at + 1,
+                });
+            }
+            return Numeral::Whole(Number {
+                value: value + b * weight,
+                next: at + 1,
+            });
+        }
+        value += (b - TOP) * weight;
+        weight *= TOP;
+        at += 1;
+        turn += 1;
+    }
+    if bytes.len() <= at {
+        return refused(ENDS_EARLY, start);
+    }
+    if bytes[at] == 1 {
+        return Numeral::Whole(Number {
+            value: value + weight,
+            next: at + 1,
+        });
+    }
+    refused(NOT_SHORTEST, start)
+}
+
+// How many bytes a number takes.
+pub fn number_len(value: u64) -> usize
+    ensures { λ r. ⌜ r ≡ length (writtenOf value) ⌝ }
+{
+    let mut rest = value;
+    let mut len: usize = 1;
+    while TOP <= rest {
+        rest /= TOP;
+        len += 1;
+    }
+    len
+}
+
+// Writes a number at an offset, and answers the offset after it.
+pub fn put_number(out: &mut [u8], start: usize, value: u64) -> usize
+    requires { ⌜ start + length (writtenOf value) ≤ length (now out) ⌝ }
+    ensures { λ r. ⌜ (r ≡ start + length (writtenOf value)) × (now (out .exit) ≡ sets (now (out .entry)) start (writtenOf value)) ⌝ }
+{
+    let mut rest = value;
+    let mut at = start;
+    while TOP <= rest {
+        out[at] = (rest % TOP) as u8 + 128;
+        rest /= TOP;
+        at += 1;
+    }
+    out[at] = rest as u8;
+    at + 1
+}
