@@ -7,7 +7,10 @@ with the square of the length, and what is hard about a sum is already so with f
 import math
 import sys
 
-from questions.doubles import NOT_FINITE, any_finite, any_number, any_significand, float_of, moved, pattern_of
+from questions.doubles import (
+    NOT_FINITE, any_finite, any_number, any_significand, float_of, moved, pattern_of, spelled_list,
+)
+from questions.lines import with_damaged
 
 LARGEST = sys.float_info.max
 LEAST_NORMAL = sys.float_info.min
@@ -36,6 +39,18 @@ NOTABLE = [
 ]
 
 LENGTHS = list(range(LONGEST + 6)) + [2048, 5000]
+
+# after the word
+UNCLEAR = (
+    b" ", b" 0", b" x", b"s", b" 3ff0000000000000 ", b"  3ff0000000000000",
+    1024 * b" 3ff0000000000000" + b" 0", 1026 * b" 7ff0000000000000" + b" x",
+)
+
+
+def questions_of(word, random):
+    """The questions of a word that takes a list and nothing else."""
+    asked = (word + spelled_list(random, patterns) for patterns in lists(random))
+    return with_damaged(random, (word + end for end in UNCLEAR), asked)
 
 
 def lists(random):

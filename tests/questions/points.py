@@ -3,7 +3,7 @@
 import math
 
 from questions.doubles import (
-    LARGEST_COORDINATE, LEAST_COORDINATE, NOT_FINITE, SIGN, any_number, float_of, pattern_of,
+    LARGEST_COORDINATE, LEAST_COORDINATE, NOT_FINITE, SIGN, any_number, float_of, pattern_of, spelled_list,
 )
 
 # with both signs: infinities and NaNs, subnormals, and the doubles next to the ends of the range
@@ -76,6 +76,14 @@ def patterns(points):
 def replaced(accepted, place, pattern):
     """The list with another pattern at one place."""
     return accepted[:place] + [pattern] + accepted[place + 1 :]
+
+
+def asked_of(word, random, lists):
+    """A line for each list of coordinates, and after one in sixteen the same with refused ones."""
+    for accepted in lists:
+        yield word + spelled_list(random, accepted)
+        if random.randrange(16) == 0:
+            yield word + spelled_list(random, with_refused(random, accepted))
 
 
 def with_refused(random, accepted):

@@ -2,10 +2,10 @@
 
 from itertools import permutations
 
-from questions.doubles import any_number, any_significand, moved, spelled_list
+from questions.doubles import any_number, any_significand, moved
 from questions.lines import with_damaged
 from questions.points import (
-    ENDS, REFUSED, any_point, chopped, grid_point, patterns, replaced, scaled, with_refused,
+    ENDS, REFUSED, any_point, asked_of, chopped, grid_point, patterns, replaced, scaled,
 )
 
 FILTER = float.fromhex("0x1.0028010000002p-50")
@@ -35,14 +35,7 @@ UNCLEAR = (
 
 
 def questions(random):
-    return with_damaged(random, UNCLEAR, asked(random))
-
-
-def asked(random):
-    for accepted in triples(random):
-        yield b"side" + spelled_list(random, accepted)
-        if random.randrange(16) == 0:
-            yield b"side" + spelled_list(random, with_refused(random, accepted))
+    return with_damaged(random, UNCLEAR, asked_of(b"side", random, triples(random)))
 
 
 def triples(random):

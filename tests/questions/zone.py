@@ -1,9 +1,9 @@
 """Questions of the kind zone: a point and the corners of a zone."""
 
-from questions.doubles import moved, spelled_list
+from questions.doubles import moved
 from questions.lines import with_damaged
 from questions.points import (
-    ENDS, REFUSED, any_point, chopped, grid_point, patterns, replaced, scaled, with_refused,
+    ENDS, REFUSED, any_point, asked_of, chopped, grid_point, patterns, replaced, scaled, with_refused,
 )
 
 SQUARE = [(0.0, 0.0), (4.0, 0.0), (4.0, 4.0), (0.0, 4.0)]
@@ -35,14 +35,7 @@ UNCLEAR = (
 
 
 def questions(random):
-    return with_damaged(random, UNCLEAR, asked(random))
-
-
-def asked(random):
-    for accepted in zones(random):
-        yield b"zone" + spelled_list(random, accepted)
-        if random.randrange(16) == 0:
-            yield b"zone" + spelled_list(random, with_refused(random, accepted))
+    return with_damaged(random, UNCLEAR, asked_of(b"zone", random, zones(random)))
 
 
 def zones(random):

@@ -1,6 +1,6 @@
 -- The plain sum. In order: what the entries done so far add and take away, each below a bound, and the words that hold it; before the
--- first entry; one entry more; after the last, the sign of the words is the sign of the total; no two results satisfy the promise.
--- Not here: words (`Words`); refusals (`Refused`). Assumes nothing.
+-- first entry; one entry more; after the last, the sign of the words is the sign of the total; no two results satisfy the promise; a run
+-- answers the same. Not here: words (`Words`); refusals (`Refused`). Assumes nothing.
 use mathlib.Core.Path.{_≡_, refl, sym, ap, _∙_, subst}
 use mathlib.Core.Logic.{_⊎_, inl, inr}
 use mathlib.Core.Bool.{Bool, true, false, cond}
@@ -9,7 +9,7 @@ use Prim.Native.Nat.{ℕ, zero, suc, _+_, _*_, _^_, _≤_, _<_}
 use native.Mathlib.Nat.{le-trans, le-of-lt, lt-of-lt-of-le, lt-of-le-of-lt, mul-le-mul-right, eq-zero-or-pos}
 use native.Mathlib.Numerals.{add-one}
 use native.Mathlib.Omega.{arith}
-use lib.Dec.{T, leb, ltb, eqb, ltb→lt}
+use lib.Dec.{T, leb, ltb, eqb, ltb→lt, lit≤}
 use lib.IntN.{ℤ, pos, negsuc, negℤ, _+ℤ_, _-ℤ_}
 use lib.ListN.{length, getD, drop, drop-of-length-le}
 use lib.Pow.{pow-mono, shl-lt}
@@ -20,7 +20,7 @@ use Rattle.whole.specs.Sign.{sgn}
 use Rattle.whole.proofs.Laws.Parts.{up, dn, up-neg, dn-neg, add-parts, ≡-parts}
 use Rattle.whole.proofs.Laws.Sign.{sgn-nat-positive, sgn-nat-zero, sgn-nat-negative}
 use Rattle.double.specs.Worth.{worth}
-use Rattle.double.specs.Outcome.{Outcome, Fixes}
+use Rattle.double.specs.Outcome.{Outcome, answers, Fixes}
 use Rattle.double.specs.declared.answer.Parts.{Parts}
 use Rattle.double.proofs.Laws.Apart.{Means}
 use Rattle.double.proofs.Laws.Outcome.{refuses-once}
@@ -28,9 +28,15 @@ use Rattle.sum.specs.Limit.{limit}
 use Rattle.sum.specs.Total.{totalOf, signNumber}
 use Rattle.sum.specs.Plain.{plainSaid, plainOf}
 use Rattle.sum.specs.Words.{base, count, modulus, half, valueOf, Changed, unitsOf, addsOf, takesOf, signHeld}
+use Rattle.sum.specs.Run.{ranFrom, Accepted}
+use Rattle.sum.proofs.Laws.Refused.{checked-accepted}
+use Rattle.sum.proofs.Laws.Entries.{AllReal}
+use Rattle.sum.proofs.Laws.Running.{sign-once}
+use Rattle.sum.proofs.Laws.Sign.{run-sign}
 use Rattle.sum.proofs.Laws.Words.{past}
 use Rattle.sum.specs.declared.answer.Sign.{Sign}
 use Rattle.sum.specs.declared.answer.Sign.the-variants.{Minus, Zero, Plus}
+use Rattle.sum.specs.declared.answer.Verdict.the-variants.{Decided}
 use Rattle.sum.specs.declared.answer.Plain.{Plain}
 use Rattle.sum.specs.declared.answer.Plain.the-variants.{Signed, Refused}
 
@@ -197,23 +203,19 @@ held-sign xs i ws h l b r =
     no-rest u d v e x y h a b = omega arith
 
 -- ---- no two results satisfy the promise
-number-once : (r s : Sign) → signNumber r ≡ signNumber s → r ≡ s
-number-once Minus Minus e = refl
-number-once Minus Zero e = cc
-number-once Minus Plus e = cc
-number-once Zero Minus e = cc
-number-once Zero Zero e = refl
-number-once Zero Plus e = cc
-number-once Plus Minus e = cc
-number-once Plus Zero e = cc
-number-once Plus Plus e = refl
-
 said-once : (a b : Plain) → plainSaid a ≡ plainSaid b → a ≡ b
 unfolding plainSaid
-said-once (Signed r) (Signed s) e = ap Signed (number-once r s cc)
+said-once (Signed r) (Signed s) e = ap Signed (sign-once r s cc)
 said-once (Signed r) (Refused q) e = cc
 said-once (Refused q) (Signed s) e = cc
 said-once (Refused q) (Refused r) e = ap Refused (refuses-once q r e)
 
 pub plain-fixed : (xs : List Float) → Fixes (λ (r : Plain). plainSaid r ≡ plainOf xs)
 plain-fixed xs a b p q = said-once a b (p ∙ sym q)
+
+-- ---- "The plain sum gives the same sign": what a run with any budget decides
+pub run-plain : (budget : ℕ) (xs : List Float) → AllReal xs → Accepted xs → (s : Sign) → ranFrom budget 0 xs .verdict ≡ Decided s
+    → plainOf xs ≡ answers (signNumber s)
+unfolding plainOf
+run-plain budget xs a l s e =
+    checked-accepted xs (sgn (totalOf xs)) l ∙ ap answers (sym (run-sign budget xs a s (le-trans (l .short) (lit≤ tt)) e))

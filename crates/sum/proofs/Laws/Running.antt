@@ -120,9 +120,9 @@ sign-once Minus Zero e = cc
 sign-once Minus Plus e = cc
 sign-once Zero Minus e = cc
 sign-once Zero Zero e = refl
-sign-once Zero Plus e = let z : _≡_ {A = ℕ} 0 1 = cc in let w : ⊥ = omega arith in absurd w
+sign-once Zero Plus e = cc
 sign-once Plus Minus e = cc
-sign-once Plus Zero e = let z : _≡_ {A = ℕ} 1 0 = cc in let w : ⊥ = omega arith in absurd w
+sign-once Plus Zero e = cc
 sign-once Plus Plus e = refl
 
 verdict-once : (v w : Verdict) → decision v ≡ decision w → v ≡ w
