@@ -22,10 +22,16 @@ def answer_zone(words):
         raise Refused(1, 0)
     values = coordinates(patterns)  # the point at places 0 and 1, corners from 2
     point, *zone = zip(values[::2], values[1::2])
+    place, edge = place_in(zone, point)
+    return b"zone border %d" % edge if place == "border" else b"zone " + place.encode("ascii")
+
+
+def place_in(zone, point):
+    """The place of a point, and on the border its edge."""
     edge = border_edge(zone, point)
     if edge is not None:
-        return b"zone border %d" % edge
-    return b"zone inside" if counted_edges(zone, point) % 2 == 1 else b"zone outside"
+        return "border", edge
+    return ("inside" if counted_edges(zone, point) % 2 == 1 else "outside"), None
 
 
 def edges(zone):

@@ -1,6 +1,6 @@
--- The numbers of a question: a double by its bit pattern, and a count.
+-- The numbers of a question, quoted from the line tool's protocol: a double by its bit pattern, and a count.
 use Prim.Native.Nat.{ℕ, _+_, _-_, _*_, _^_}
-use mathlib.Core.Bool.{Bool, true, false, _&&_, cond}
+use mathlib.Core.Bool.{Bool, _&&_, cond}
 use mathlib.Core.List.{List, [], _∷_}
 use lib.Dec.{leb, ltb, eqb}
 use lib.ListN.{length}

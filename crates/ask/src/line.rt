@@ -1,8 +1,9 @@
 // One line of input, byte by byte: a question's word and arguments, a line that is copied, or one of no known form.
 //
-// A line can be of any length. Only the word that is being read stands in `token`, and a question's doubles stand in `list`.
+// A line can be of any length. Only the word that is being read, or a file's bytes, stand in `token`, and a question's doubles in `list`.
 use crate::numeral;
 use crate::numeral::Count;
+use crate::numeral::Digit;
 use crate::numeral::Numeral;
 use crate::part::first;
 use crate::word;
@@ -20,6 +21,18 @@ pub struct Question {
     pub len: usize,
 }
 
+// Bytes of a file that are held: one more than the longest file, and more can not alter the answer.
+const FILE: usize = 10243;
+
+// A file to be read, its bytes in the token.
+pub struct File {
+    pub room: u32,
+    // How many of its digits were taken. Of those past what is held only whether they are even or odd is counted.
+    pub digits: usize,
+    // The last digit.
+    pub digit: u64,
+}
+
 pub enum Line {
     // Nothing of it was read.
     Empty,
@@ -30,6 +43,7 @@ pub enum Line {
     // The first word, with this many bytes in the token.
     Naming(usize),
     Asking(Question),
+    Reading(File),
 }
 
 // The line with one byte more, which is no line end.
@@ -55,6 +69,7 @@ pub fn next(line: Line, b: u8, token: &mut [u8], list: &mut [f64]) -> Line {
             }
             asking(q, b, token)
         }
+        Line::Reading(f) => reading(f, b, token),
     }
 }
 
@@ -66,6 +81,7 @@ pub fn ended(line: Line, token: &[u8], list: &mut [f64]) -> Line {
         Line::Unclear => Line::Unclear,
         Line::Naming(len) => named(token, len),
         Line::Asking(q) => taken(q, token, list),
+        Line::Reading(f) => filed(f),
     }
 }
 
@@ -110,6 +126,45 @@ fn asking(q: Question, b: u8, token: &mut [u8]) -> Line {
     })
 }
 
+// One digit more of a file's bytes. The second one of a byte has it stored.
+fn reading(f: File, b: u8, token: &mut [u8]) -> Line {
+    let Digit::Value(d) = numeral::digit_of(b) else {
+        return Line::Unclear;
+    };
+    let k = f.digits;
+    if k % 2 == 0 {
+        return read_on(f.room, k + 1, d);
+    }
+    let i = k / 2;
+    if FILE <= i {
+        return read_on(f.room, k - 1, d);
+    }
+    if token.len() <= i {
+        return Line::Unclear;
+    }
+    token[i] = (16 * (f.digit % 16) + d) as u8;
+    read_on(f.room, k + 1, d)
+}
+
+fn read_on(room: u32, digits: usize, digit: u64) -> Line {
+    Line::Reading(File {
+        room: room,
+        digits: digits,
+        digit: digit,
+    })
+}
+
+// A file's bytes are whole: a word of two digits each, so that none is left.
+fn filed(f: File) -> Line {
+    if f.digits == 0 {
+        return Line::Unclear;
+    }
+    if f.digits % 2 == 1 {
+        return Line::Unclear;
+    }
+    Line::Reading(f)
+}
+
 // An argument is whole: the count, or a double, which joins the list.
 fn taken(q: Question, token: &[u8], list: &mut [f64]) -> Line {
     let len = q.len;
@@ -118,6 +173,9 @@ fn taken(q: Question, token: &[u8], list: &mut [f64]) -> Line {
         let Count::Value(n) = numeral::count_of(first(token, len)) else {
             return Line::Unclear;
         };
+        if let Word::Read = word {
+            return read_on(n, 0, 0);
+        }
         return Line::Asking(Question {
             word: word,
             count: n,

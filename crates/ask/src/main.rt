@@ -7,17 +7,18 @@ mod out;
 mod part;
 mod sides;
 mod sums;
+mod tracks;
 mod word;
 
 use libc::EINTR;
 use libc::STDIN_FILENO;
 use line::Line;
 
-// Bytes of a word that are held: a double's 16 digits are the longest.
-const TOKEN: usize = 16;
+// Bytes of a word or a file that are held, and the most that are lent to the writer. (A double's word has 16, and of a file 10,243 are enough.)
+const TOKEN: usize = 10300;
 
-// Doubles of a question that are held: two more than the longest list that is accepted.
-const HELD: usize = 1026;
+// Doubles of a question that are held, and the most that are lent to the reader. (Two more than the longest list that is accepted are enough.)
+const HELD: usize = 1100;
 
 // What is left after some bytes of input: the line that they end in, and how many bytes of output wait.
 struct Left {
@@ -31,7 +32,7 @@ fn fed(line: Line, b: u8, token: &mut [u8], list: &mut [f64], out: &mut [u8], le
         let whole = line::ended(line, token, list);
         return Left {
             line: Line::Empty,
-            len: answer::answer(whole, list, out, len),
+            len: answer::answer(whole, token, list, out, len),
         };
     }
     let more = line::next(line, b, token, list);
@@ -65,12 +66,12 @@ fn feed(line: Line, input: &[u8], token: &mut [u8], list: &mut [f64], out: &mut 
 }
 
 // The last line where it has no line end.
-fn last(line: Line, token: &[u8], list: &mut [f64], out: &mut [u8]) {
+fn last(line: Line, token: &mut [u8], list: &mut [f64], out: &mut [u8]) {
     if let Line::Empty = line {
         return;
     }
     let whole = line::ended(line, token, list);
-    let len = answer::answer(whole, list, out, 0);
+    let len = answer::answer(whole, token, list, out, 0);
     out::flush(out, len);
 }
 

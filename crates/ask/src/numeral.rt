@@ -27,7 +27,7 @@ const PATTERN_DIGITS: usize = 16;
 
 const COUNT_DIGITS: usize = 10;
 
-fn digit_of(b: u8) -> Digit
+pub fn digit_of(b: u8) -> Digit
     ensures { λ r. ⌜ r ≡ digitOf b ⌝ }
 {
     if b < b'0' {

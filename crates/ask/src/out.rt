@@ -53,6 +53,12 @@ fn put_double(out: &mut [u8], len: usize, x: f64) -> usize {
     put_text(out, len, &digits[..k])
 }
 
+fn put_byte(out: &mut [u8], len: usize, b: u8) -> usize {
+    let mut digits = [0u8; 16];
+    let k = io::hex(b as u64, 2, &mut digits);
+    put_text(out, len, &digits[..k])
+}
+
 // A list of doubles, each after a space.
 pub fn put_doubles(out: &mut [u8], len: usize, list: &[f64]) -> usize {
     let mut n = len;
@@ -60,6 +66,17 @@ pub fn put_doubles(out: &mut [u8], len: usize, list: &[f64]) -> usize {
     while i < list.len() {
         n = put(out, n, b' ');
         n = put_double(out, n, list[i]);
+        i += 1;
+    }
+    n
+}
+
+// Bytes as two hexadecimal digits each.
+pub fn put_bytes(out: &mut [u8], len: usize, bytes: &[u8]) -> usize {
+    let mut n = len;
+    let mut i: usize = 0;
+    while i < bytes.len() {
+        n = put_byte(out, n, bytes[i]);
         i += 1;
     }
     n

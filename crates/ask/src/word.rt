@@ -6,6 +6,8 @@ pub enum Word {
     Plain,
     Side,
     Zone,
+    Write,
+    Read,
     // No question begins with it.
     None,
 }
@@ -29,10 +31,26 @@ pub fn word_of(token: &[u8]) -> Word {
     if check::same(token, b"zone") {
         return Word::Zone;
     }
+    if check::same(token, b"write") {
+        return Word::Write;
+    }
+    if check::same(token, b"read") {
+        return Word::Read;
+    }
     Word::None
 }
 
 // Whether the first argument is a count.
 pub fn takes_count(word: Word) -> bool {
-    if let Word::Run = word { true } else { false }
+    match word {
+        Word::Run => true,
+        Word::Write => true,
+        Word::Read => true,
+        Word::Apart => false,
+        Word::Ceiling => false,
+        Word::Plain => false,
+        Word::Side => false,
+        Word::Zone => false,
+        Word::None => false,
+    }
 }

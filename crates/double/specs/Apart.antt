@@ -1,8 +1,7 @@
 -- Taking a double apart, by 01's section Numbers.
 use Prim.Native.Nat.{ℕ, _-_, _*_, _/_, _^_}
-use mathlib.Core.Bool.{Bool}
 use lib.Ieee.{Float, nan, inf, fin, binary64, prec, size}
-use Rattle.double.specs.Worth.{mag, signBit, ofUnits}
+use Rattle.double.specs.Worth.{mag, ofUnits}
 use Rattle.double.specs.Outcome.{Outcome, answers, refuses, notFinite}
 use Rattle.double.specs.declared.answer.Parts.{Parts}
 use Rattle.double.specs.declared.answer.Taken.{Taken}
@@ -22,7 +21,8 @@ unfoldable pub significandOf : ℕ → ℕ
 unfolding exponentOf
 significandOf n = n / 2 ^ exponentOf n
 
--- "Taking a double apart gives its sign bit, a significand s and an exponent e"; of an infinity or not-a-number it is refused, place 0
+-- "Taking a double apart gives its sign bit, a significand s .. and an exponent e .., as its fields have them"; "Taking apart: 2 only", "place"
+-- "taken apart 0"
 unfoldable pub apartOf : Float → Outcome Parts
 apartOf nan = refuses notFinite 0
 apartOf (inf s) = refuses notFinite 0

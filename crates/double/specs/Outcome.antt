@@ -3,7 +3,7 @@
 use Prim.Native.Nat.{ℕ}
 use mathlib.Core.Path.{_≡_}
 
--- "A refusal returns its number and place."
+-- "A refusal returns its number and place and writes nothing."
 pub data Outcome (A : Type 0) : Type 0 where
   answers : A → Outcome A
   refuses : ℕ → ℕ → Outcome A

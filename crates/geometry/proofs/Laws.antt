@@ -13,3 +13,9 @@ pub mod Side
 pub mod Edges
 -- the walk and the count over all edges, and the refusals of a zone
 pub mod Zone
+-- what a side and a zone can come to, by cases
+pub mod Outcomes
+-- the points of a flat list
+pub mod Corners
+-- a zone that is not refused
+pub mod Answered

@@ -1,19 +1,16 @@
 -- Stages 1 and 2 of a side: doubles alone, each operation rounded once.
 use mathlib.Core.Path.{_≡_}
-use mathlib.Core.Bool.{Bool, _||_, cond}
+use mathlib.Core.Bool.{_||_, cond}
 use lib.Ieee.{Float, binary64, sub, mul, neg, lt, eq, ofBits}
+use Rattle.double.specs.Worth.{plus0}
 use Rattle.point.specs.declared.Point.{Point}
 use Rattle.point.specs.Accepted.{magnitudeOf}
-use Rattle.sum.specs.declared.answer.Sign.the-variants.{Minus, Zero, Plus}
+use Rattle.sum.specs.declared.answer.Sign.the-variants.{Minus, Plus}
 use lib.IntN.{pos}
 use Rattle.whole.specs.Order.{_<ᶻ_}
 use Rattle.geometry.specs.Determinant.{determinant}
 use Rattle.geometry.specs.declared.filter.Early.{Early}
 use Rattle.geometry.specs.declared.filter.Early.the-variants.{Level, Clear, Open}
-
--- +0
-abbrev pub plus0 : Float
-plus0 = ofBits binary64 0
 
 -- "8.8872057372592758e-16, taken as the nearest double"
 abbrev pub filterConstant : Float
@@ -26,7 +23,7 @@ greater a b = cond (lt a b) b a
 abbrev pub spanOf : Float → Float → Float → Float
 spanOf u v w = greater (magnitudeOf (sub binary64 u w)) (magnitudeOf (sub binary64 v w))
 
--- "E is (8.8872057372592758e-16 … times X) times Y, each product rounded"
+-- "E is (8.8872057372592758e-16 .. times X) times Y, each product rounded"
 abbrev pub thresholdOf : Float → Float → Float
 thresholdOf X Y = mul binary64 (mul binary64 filterConstant X) Y
 

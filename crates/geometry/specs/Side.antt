@@ -2,7 +2,7 @@
 use Prim.Native.Nat.{ℕ}
 use mathlib.Core.Path.{_≡_}
 use mathlib.Core.Bool.{true}
-use mathlib.Core.List.{List, [], _∷_}
+use mathlib.Core.List.{[], _∷_}
 use lib.IntN.{ℤ, pos}
 use Rattle.double.specs.Outcome.{Outcome, answers, refuses}
 use Rattle.point.specs.declared.Point.{Point}
@@ -28,7 +28,7 @@ pub record Turned : Type 0 where
 abbrev pub turned : ℤ → ℕ → ℕ → Turned
 turned s n k = record { sign = s; stage = n; steps = k }
 
--- "For a side question the count is never above 480": a budget that always decides
+-- the third demand's "For a side question the count is never above 480": a budget that always decides (Laws.Exact)
 abbrev pub mostSteps : ℕ
 mostSteps = 480
 

@@ -91,6 +91,10 @@ isUp e p = (le (e .from .y) (p .y) && lt (p .y) (e .to .y)) && isPositive (sideO
 unfoldable pub isDown : Edge → Point → Bool
 isDown e p = (le (e .to .y) (p .y) && lt (p .y) (e .from .y)) && isNegative (sideOfEdge e p)
 
+-- one of the two ranges of y
+abbrev pub straddling : Float → Float → Float → Bool
+straddling a b y = (le a y && lt y b) || (le b y && lt y a)
+
 -- how an edge counts, for the function that tells it
 abbrev pub crossingOf : Edge → Point → Crossing
 crossingOf e p = cond (isUp e p) Up (cond (isDown e p) Down None)
@@ -100,17 +104,29 @@ countOf is [] p = 0
 countOf is (e ∷ es) p = cond (is e p) 1 0 + countOf is es p
 
 -- ---- the place
+-- outside; on the border, at the edge of this number; inside
+pub data Lies : Type 0 where
+  outside : Lies
+  border : ℕ → Lies
+  inside : Lies
+
+-- "0, 1, 2 for .. outside, border, inside"
+abbrev pub placeNumber : Lies → ℕ
+placeNumber outside = 0
+placeNumber (border k) = 1
+placeNumber inside = 2
+
 -- "Odd: inside. Even: outside."
-abbrev pub parity : ℕ → Place
-parity n = cond (eqb (n % 2) 1) Inside Outside
+abbrev pub parity : ℕ → Lies
+parity n = cond (eqb (n % 2) 1) inside outside
 
 -- "The walk over edges ends at the first such edge, which is answered, counted from 0": edges from k on, and what is answered off the border
-unfoldable pub walk : ℕ → List Edge → Point → Place → Place
+unfoldable pub walk : ℕ → List Edge → Point → Lies → Lies
 unfolding onEdge
 walk k [] p off = off
-walk k (e ∷ es) p off = cond (onEdge e p) (Border k) (walk (k + 1) es p off)
+walk k (e ∷ es) p off = cond (onEdge e p) (border k) (walk (k + 1) es p off)
 
-unfoldable pub placeOf : List Edge → Point → Place
+unfoldable pub placeOf : List Edge → Point → Lies
 unfolding walk countOf isUp isDown
 placeOf es p = walk 0 es p (parity (countOf isUp es p + countOf isDown es p))
 
@@ -145,13 +161,19 @@ pub record Zoned (xs : List Float) (n : ℕ) : Type 0 where
   pub accepted : (k : ℕ) → k < n → Accepted (cornerAt xs k)
 
 -- ---- the answer
--- outside, border with its edge, inside
-unfoldable pub zoneSaid : Zone → Outcome Place
-zoneSaid (At place) = answers place
+-- this paper's word for each case of the answer
+unfoldable pub placeSaid : Place → Lies
+placeSaid Outside = outside
+placeSaid (Border k) = border k
+placeSaid Inside = inside
+
+unfoldable pub zoneSaid : Zone → Outcome Lies
+unfolding placeSaid
+zoneSaid (At place) = answers (placeSaid place)
 zoneSaid (Refused r) = refuses (r .number) (r .place)
 
 -- "Zone 5, 4, 1, then 3 with the point at places 0 and 1 and corners from 2"
-unfoldable pub zoneOf : List Float → Point → Outcome Place
+unfoldable pub zoneOf : List Float → Point → Outcome Lies
 unfolding acceptingFrom cornersOf edgesOf placeOf
 zoneOf corners p =
     cond (eqb (length corners % 2) 1) (refuses oddLength 0)

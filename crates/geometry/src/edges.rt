@@ -1,7 +1,7 @@
 // One edge of a zone and a point, all accepted: whether it is on the edge, and how the edge counts.
 ghost use mathlib.Core.Path.{_≡_};
 ghost use Rattle.geometry.specs.Side.{Accepted};
-ghost use Rattle.geometry.specs.Zone.{between, edge, onEdge, crossingOf};
+ghost use Rattle.geometry.specs.Zone.{between, straddling, edge, onEdge, crossingOf};
 use crate::turning::turn;
 use point::Point;
 use sum::answer::Sign;
@@ -14,7 +14,7 @@ pub enum Crossing {
 }
 
 // Whether v lies from a to b or from b to a.
-fn lies_between(a: f64, b: f64, v: f64) -> bool
+pub fn lies_between(a: f64, b: f64, v: f64) -> bool
     ensures { λ r. ⌜ r ≡ between a b v ⌝ }
 {
     if a <= v {
@@ -24,6 +24,22 @@ fn lies_between(a: f64, b: f64, v: f64) -> bool
     }
     if b <= v {
         return v <= a;
+    }
+    false
+}
+
+// Whether an edge from height a to height b goes up or down past y: an upward one includes its start and not its end, a downward one its
+// end and not its start.
+pub fn straddles(a: f64, b: f64, y: f64) -> bool
+    ensures { λ r. ⌜ r ≡ straddling a b y ⌝ }
+{
+    if a <= y {
+        if y < b {
+            return true;
+        }
+    }
+    if b <= y {
+        return y < a;
     }
     false
 }

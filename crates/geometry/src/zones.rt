@@ -3,13 +3,15 @@ ghost use mathlib.Core.Path.{_≡_};
 ghost use Prim.Native.Nat.{_+_, _*_, _≤_, _<_};
 ghost use lib.ListN.{length};
 ghost use Rattle.geometry.specs.Side.{Accepted};
-ghost use Rattle.geometry.specs.Zone.{Zoned, cornerAt, nextOf, withEdge, countsOf, cornersFault, faultSaid};
-ghost use Rattle.geometry.specs.Zone.{cornersOf, edgesOf, placeOf, zoneOf, zoneSaid};
+ghost use Rattle.geometry.specs.Zone.{Zoned, edge, onEdge, crossingOf, cornerAt, nextOf, withEdge, countsOf, cornersFault, faultSaid};
+ghost use Rattle.geometry.specs.Zone.{cornersOf, edgesOf, placeOf, placeSaid, zoneOf, zoneSaid};
 use crate::answer::Place;
 use crate::answer::Zone;
 use crate::edges::Crossing;
 use crate::edges::crosses;
+use crate::edges::lies_between;
 use crate::edges::on_edge;
+use crate::edges::straddles;
 use double::refusal::NOT_ACCEPTED;
 use double::refusal::ODD_LENGTH;
 use double::refusal::Refusal;
@@ -39,6 +41,37 @@ fn next_of(n: usize, k: usize) -> usize
     ensures { λ r. ⌜ r ≡ nextOf n k ⌝ }
 {
     if k + 1 < n { k + 1 } else { 0 }
+}
+
+fn height_at(corners: &[f64], k: usize) -> f64
+    requires { ⌜ (k < 64) × (2 * k + 1 < length (now corners)) ⌝ }
+    ensures { λ y. ⌜ y ≡ cornerAt (now (corners .entry)) k .y ⌝ }
+{
+    corners[2 * k + 1]
+}
+
+// Whether p is on the edge from corner k to corner j. Heights are compared before corners are put together: most edges are done with that.
+fn on_edge_at(corners: &[f64], k: usize, j: usize, p: Point) -> bool
+    requires { ⌜ (k < 64) × (2 * k + 1 < length (now corners)) × (j < 64) × (2 * j + 1 < length (now corners)) ⌝ }
+    requires { ⌜ Accepted (cornerAt (now corners) k) × Accepted (cornerAt (now corners) j) × Accepted p ⌝ }
+    ensures { λ r. ⌜ r ≡ onEdge (edge (cornerAt (now (corners .entry)) k) (cornerAt (now (corners .entry)) j)) p ⌝ }
+{
+    if !lies_between(height_at(corners, k), height_at(corners, j), p.y) {
+        return false;
+    }
+    on_edge(corner_at(corners, k), corner_at(corners, j), p)
+}
+
+// How the edge from corner k to corner j counts, likewise.
+fn crosses_at(corners: &[f64], k: usize, j: usize, p: Point) -> Crossing
+    requires { ⌜ (k < 64) × (2 * k + 1 < length (now corners)) × (j < 64) × (2 * j + 1 < length (now corners)) ⌝ }
+    requires { ⌜ Accepted (cornerAt (now corners) k) × Accepted (cornerAt (now corners) j) × Accepted p ⌝ }
+    ensures { λ r. ⌜ r ≡ crossingOf (edge (cornerAt (now (corners .entry)) k) (cornerAt (now (corners .entry)) j)) p ⌝ }
+{
+    if !straddles(height_at(corners, k), height_at(corners, j), p.y) {
+        return Crossing::None;
+    }
+    crosses(corner_at(corners, k), corner_at(corners, j), p)
 }
 
 // How many edges count upward, and how many downward.
@@ -73,9 +106,7 @@ fn counted(corners: &[f64], n: usize, p: Point) -> Counts
     let mut k = n;
     while 0 < k {
         k -= 1;
-        let a = corner_at(corners, k);
-        let b = corner_at(corners, next_of(n, k));
-        c = with_edge(c, crosses(a, b, p));
+        c = with_edge(c, crosses_at(corners, k, next_of(n, k), p));
     }
     c
 }
@@ -83,16 +114,14 @@ fn counted(corners: &[f64], n: usize, p: Point) -> Counts
 // The place of an accepted point: the walk ends at the first edge that it is on, or goes on to the count.
 fn place(corners: &[f64], n: usize, p: Point) -> Place
     requires { ⌜ Zoned (now corners) n × Accepted p ⌝ }
-    ensures { λ r. ⌜ r ≡ placeOf (edgesOf (cornersOf (now (corners .entry)))) p ⌝ }
+    ensures { λ r. ⌜ placeSaid r ≡ placeOf (edgesOf (cornersOf (now (corners .entry)))) p ⌝ }
 {
     let mut k: usize = 0;
     let edge = loop {
         if n <= k {
             break n;
         }
-        let a = corner_at(corners, k);
-        let b = corner_at(corners, next_of(n, k));
-        if on_edge(a, b, p) {
+        if on_edge_at(corners, k, next_of(n, k), p) {
             break k;
         }
         k += 1;

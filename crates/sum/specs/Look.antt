@@ -5,16 +5,13 @@ use mathlib.Core.Bool.{Bool, true, false, cond, _&&_}
 use mathlib.Core.List.{List, [], _∷_}
 use lib.Dec.{eqb}
 use lib.IntN.{pos}
-use lib.Ieee.{Float, binary64, lt, le, neg, mul, ofInt, ofBits}
+use lib.Ieee.{Float, binary64, lt, le, neg, mul, ofInt}
+use Rattle.double.specs.Worth.{plus0}
 use Rattle.sum.specs.declared.answer.Sign.the-variants.{Minus, Zero, Plus}
 use Rattle.sum.specs.declared.answer.Verdict.{Verdict}
 use Rattle.sum.specs.declared.answer.Verdict.the-variants.{Decided, Undecided}
 use Rattle.sum.specs.declared.look.Look.{Look}
 use Rattle.sum.specs.declared.look.Look.the-variants.{Neither, Positive, Negative, Both}
-
--- +0
-abbrev pub plus0 : Float
-plus0 = ofBits binary64 0
 
 -- x is positive, or negative
 abbrev pub onSide : Bool → Float → Bool
@@ -28,7 +25,7 @@ asFar true x y = le x y
 
 -- ---- the extremes
 
--- "the number of positive and … of negative entries"
+-- "the number of positive" and "the number of negative entries"
 unfoldable pub countOf : Bool → List Float → ℕ
 countOf s [] = 0
 countOf s (x ∷ xs) = cond (onSide s x) 1 0 + countOf s xs
@@ -59,7 +56,7 @@ abbrev pub times : ℕ → Float → Float
 times k x = mul binary64 (ofInt binary64 (pos k)) x
 
 -- a the greatest positive entry, b the magnitude of the most negative one:
--- "If a is greater than n times b … the sign is +1. If b is greater than m times a, rounded likewise, the sign is -1."
+-- "If a is greater than n times b .. the sign is +1. If b is greater than m times a, rounded likewise, the sign is -1."
 abbrev pub compared : ℕ → ℕ → Float → Float → Verdict
 compared m n a b = cond (lt (times n b) a) (Decided Plus) (cond (lt (times m a) b) (Decided Minus) Undecided)
 

@@ -1,10 +1,11 @@
--- Which lists are refused, in the table's order: 1 over the limit, place 0; then 2 at the first index of an infinity or not-a-number.
+-- Which lists are refused: "sums and ceiling 1, 2". 1 is "sum list over 1,024", place 0; 2 is "infinity or not-a-number, in a sum list", at its
+-- "first index".
 use Prim.Native.Nat.{ℕ, _+_}
 use mathlib.Core.Bool.{cond}
 use mathlib.Core.List.{List, [], _∷_}
 use lib.Dec.{T, ltb}
-use lib.ListN.{length, getD}
-use lib.Ieee.{Float, nan, binary64, fits}
+use lib.ListN.{length}
+use lib.Ieee.{Float}
 use lib.Ieee.Scale.{finite}
 use Rattle.double.specs.Outcome.{Outcome, answers, refuses, tooMany, notFinite}
 use Rattle.sum.specs.Limit.{limit}
@@ -29,10 +30,6 @@ faultOf xs = checked xs tt
 unfoldable pub found : Fault → Outcome Unit
 found None = answers tt
 found (At r) = refuses (r .number) (r .place)
-
--- what owning a list of doubles tells: the format holds every entry
-abbrev pub AllDoubles : List Float → Type 0
-AllDoubles xs = (i : ℕ) → T (fits binary64 (getD xs i nan))
 
 -- every entry is finite
 abbrev pub AllFinite : List Float → Type 0

@@ -1,5 +1,5 @@
 -- One step of an undecided list.
-use Prim.Native.Nat.{ℕ, _≤_, _<_}
+use Prim.Native.Nat.{_≤_, _<_}
 use mathlib.Core.Path.{_≡_}
 use mathlib.Core.Bool.{true, false, not, cond}
 use mathlib.Core.List.{List}
@@ -8,8 +8,8 @@ use lib.IntN.{_+ℤ_, _-ℤ_}
 use lib.ListN.{set}
 use lib.Ieee.{Float, binary64, lt, neg, add}
 use lib.Ieee.Scale.{finite}
-use Rattle.double.specs.Worth.{worth, doubleOf, signBit, mag}
-use Rattle.sum.specs.Look.{plus0, extremeOf, indexOf}
+use Rattle.double.specs.Worth.{worth, plus0, doubleOf, signBit, mag}
+use Rattle.sum.specs.Look.{extremeOf, indexOf}
 
 -- "Let x be the rounded sum of the two entries"
 abbrev pub rounded : Float → Float → Float
@@ -23,7 +23,7 @@ roundoff p q = doubleOf (worth p +ℤ worth q -ℤ worth (rounded p q))
 abbrev pub put : List Float → Float → Float → List Float
 put xs u v = set (set xs (indexOf false xs) u) (indexOf true xs) v
 
--- "The slot of the entry with the larger magnitude gets x, the other slot gets y (both get +0 if the magnitudes are equal)."
+-- "A zero that is written is +0." "The slot of the entry with the larger magnitude gets x, the other slot gets y (both get +0 if the magnitudes are equal)."
 abbrev pub stepBy : List Float → Float → Float → List Float
 stepBy xs p q =
     cond (lt (neg q) p) (put xs (rounded p q) (roundoff p q))

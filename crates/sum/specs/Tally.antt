@@ -4,7 +4,8 @@ use mathlib.Core.Path.{_≡_}
 use mathlib.Core.Bool.{true, false, cond}
 use mathlib.Core.List.{List}
 use lib.Ieee.{Float}
-use Rattle.sum.specs.Refused.{AllFinite, AllDoubles}
+use Rattle.double.specs.Worth.{AllDoubles}
+use Rattle.sum.specs.Refused.{AllFinite}
 use Rattle.sum.specs.Look.{onSide, asFar, countOf, extremeOf, indexOf, lookBy, verdictOf}
 use Rattle.sum.specs.declared.answer.Verdict.the-variants.{Undecided}
 use Rattle.sum.specs.declared.look.Look.{Look}

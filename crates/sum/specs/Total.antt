@@ -1,5 +1,4 @@
 -- The exact total of a list in units of 2^-1074, and 01's numbers for a sign.
-use Prim.Native.Nat.{ℕ}
 use mathlib.Core.List.{List, [], _∷_}
 use lib.IntN.{ℤ, pos, negsuc, _+ℤ_}
 use lib.Ieee.{Float}

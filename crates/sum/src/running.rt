@@ -1,5 +1,4 @@
 // A run: looks and steps, as far as a budget goes.
-ghost use mathlib.Core.Path.{_≡_};
 ghost use Rattle.sum.specs.Run.{Accepted, RanSays, RunSays};
 use crate::answer::Ran;
 use crate::answer::Run;

@@ -17,6 +17,10 @@ pub mod File
 pub mod Write
 -- what the reader answers
 pub mod Read
+-- which numbers refusals have
+pub mod Refusals
+-- the points of an accepted file
+pub mod Points
 -- reading what was written, and writing what was read
 pub mod RoundTrip
 -- the first bytes of a file

@@ -4,7 +4,7 @@ use mathlib.Core.Bool.{cond}
 use lib.Dec.{eqb, ltb}
 use lib.IntN.{ℤ, pos, negsuc}
 
--- "the 64-bit pattern minus the preceding pattern of that axis, wrapping at 2^64"
+-- "the 64-bit pattern minus the preceding pattern of that axis (at first 0), wrapping at 2^64"
 abbrev pub difference : ℕ → ℕ → ℕ
 difference pattern before = (pattern + (2 ^ 64 - before)) % 2 ^ 64
 

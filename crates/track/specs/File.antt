@@ -1,15 +1,10 @@
 -- The file of a list of points, by 01's section 'The track file'. A list of points is x, y, x, y ..
 use Prim.Native.Nat.{ℕ, _+_, _*_, _/_}
 use mathlib.Core.List.{List, [], _∷_, _++_}
-use lib.Dec.{T}
-use lib.ListN.{length, getD}
-use lib.Ieee.{Float, nan, binary64, fits, toBits}
+use lib.ListN.{length}
+use lib.Ieee.{Float, binary64, toBits}
 use Rattle.track.specs.Number.{writtenOf}
 use Rattle.track.specs.Difference.{storedOf}
-
--- every coordinate is a double (a not-a-number is one too)
-abbrev pub Doubles : List Float → Type 0
-Doubles points = (i : ℕ) → T (fits binary64 (getD points i nan))
 
 -- "First the number of points, at most 512."
 abbrev pub limit : ℕ

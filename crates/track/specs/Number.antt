@@ -48,8 +48,8 @@ beginsWith (suc more) later (b ∷ bs) =
     (cond (later && eqb b 0) faulty (number b 1))
     (above (b - 128) (beginsWith more true bs))
 
--- a number that begins at an offset, with the offset after it; "6: file ends inside or before a number", "7: number not shortest, or above
--- 64 bits", both "where it begins"
+-- a number that begins at an offset, with the offset after it; 6, "file ends inside or before a number", "where that number begins or should";
+-- 7, "number not shortest, or above 64 bits", "where it begins"
 unfoldable pub placed : ℕ → Begins → Outcome Number
 placed start (number v n) = answers (record { value = v; next = start + n })
 placed start early = refuses endsEarly start

@@ -1,13 +1,13 @@
 -- What the writer answers, by 01's sections 'The track file' and 'Refusal numbers'.
-use Prim.Native.Nat.{ℕ, suc, _*_, _%_, _<_}
+use Prim.Native.Nat.{ℕ, _*_, _%_, _<_}
 use mathlib.Core.Path.{_≡_}
 use mathlib.Core.Bool.{true}
-use mathlib.Core.List.{List, [], _∷_}
+use mathlib.Core.List.{List}
 use lib.Dec.{eqb, leb}
 use lib.ListN.{length, getD}
 use lib.Ieee.{Float, nan}
-use Rattle.double.specs.Outcome.{Outcome, answers, refuses, oddLength, tooMany, notAccepted, noRoom}
-use Rattle.point.specs.Accepted.{acceptedOf}
+use Rattle.double.specs.Outcome.{Outcome, answers, refuses, oddLength, tooMany, noRoom}
+use Rattle.point.specs.Accepted.{acceptedOf, acceptingFrom}
 use Rattle.track.specs.Judged.{require, also, filled}
 use Rattle.track.specs.File.{limit, coordinateBytes, fileOf}
 use Rattle.track.specs.declared.answer.Writing.{Writing}
@@ -15,14 +15,13 @@ use Rattle.track.specs.declared.answer.Writing.the-variants.{Length, Ref
 use Rattle.track.specs.declared.writer.Measured.{Measured}
 use Rattle.track.specs.declared.writer.Measured.the-variants.{Length as Bytes, Refused as Bad}
 
--- "3: coordinate not accepted", at its "index in the list", for a list that begins at index i
-unfoldable pub acceptedFrom : ℕ → List Float → Outcome Unit
-acceptedFrom i [] = answers tt
-acceptedFrom i (x ∷ xs) = also (require (acceptedOf x) notAccepted i) (λ _. acceptedFrom (suc i) xs)
+-- 3, "coordinate not accepted", at its "index in the list", for a list that begins at index i
+abbrev pub acceptedFrom : ℕ → List Float → Outcome Unit
+acceptedFrom i points = acceptingFrom i points tt
 
--- the file's bytes, or the refusal: "Writer 5, 1, 3, 9", for at most `most` points and `room` lent bytes
+-- the file's bytes, or the refusal: "Writer 5, 1, 3 (index in the list), 9", for at most `most` points and `room` lent bytes
 unfoldable pub writeOf : ℕ → List Float → ℕ → Outcome (List ℕ)
-unfolding acceptedFrom fileOf
+unfolding acceptingFrom fileOf
 writeOf most points room =
     also (require (eqb (length points % 2) 0) oddLength 0) (λ _.
     also (require (leb (length points) (2 * most)) tooMany 0) (λ _.
@@ -52,7 +51,7 @@ AllAccepted points = (i : ℕ) → i < length points → acceptedOf (getD points
 
 -- the length of the coordinates' bytes, or the first coordinate that is not accepted
 unfoldable pub measureOf : List Float → Outcome ℕ
-unfolding acceptedFrom coordinateBytes
+unfolding acceptingFrom coordinateBytes
 measureOf points = also (acceptedFrom 0 points) (λ _. answers (length (coordinateBytes 0 0 points)))
 
 -- 01's number and values for each case of the code's answer

@@ -1,10 +1,10 @@
 -- Digits, one and many. In order: what a byte is as a digit; one digit more of a word; the loop over a word's digits; a pattern; a count,
 -- which has no more than ten digits. Assumes nothing.
 use mathlib.Core.Path.{_≡_, refl, sym, ap, _∙_, subst}
-use mathlib.Core.Bool.{Bool, true, false, not, _&&_, cond}
+use mathlib.Core.Bool.{Bool, true, false, cond}
 use mathlib.Core.List.{List, [], _∷_}
-use Prim.Native.Nat.{ℕ, zero, suc, _+_, _-_, _*_, _^_, _≤_, _<_}
-use native.Mathlib.Nat.{le-refl, le-trans, le-of-eq, lt-of-lt-of-le, mul-one, mul-assoc, mul-comm, one-mul, pow-zero, pow-succ'}
+use Prim.Native.Nat.{ℕ, suc, _+_, _-_, _*_, _^_, _≤_, _<_}
+use native.Mathlib.Nat.{le-trans, le-of-eq, mul-one, mul-assoc, mul-comm, pow-zero, pow-succ'}
 use native.Mathlib.Nat.{mul-le-mul-right, le-add-right, pow-le-pow-right}
 use native.Mathlib.Omega.{arith}
 use native.Mathlib.Numerals.{add-one}
@@ -12,14 +12,13 @@ use lib.Dec.{T, leb, ltb, eqb, leb→le}
 use lib.ListN.{length, drop, getD}
 use lib.Seq.{drop-cons, drop-length}
 use lib.Pow.{pow-mono, pow-add}
-use lib.Ieee.Fits.{and-l}
+use lib.Ieee.Fits.{and-l, and-r}
 use borrow.Author.Tests.{le-leb, lt-leb, eq-eqb, ne-eqb, lt-ltb, le-ltb, eqb-false}
 use Rattle.ask.specs.Numeral.{digitOf, between, onward, also, patternOf, small, countOf}
 use Rattle.ask.specs.declared.numeral.Digit.{Digit}
 use Rattle.ask.specs.declared.numeral.Digit.the-variants.{Value as Worth, None}
 use Rattle.ask.specs.declared.numeral.Numeral.{Numeral}
 use Rattle.ask.specs.declared.numeral.Numeral.the-variants.{Value, Unclear}
-use Rattle.ask.specs.declared.numeral.Count.{Count}
 use Rattle.ask.specs.declared.numeral.Count.the-variants.{Value as Counted, Unclear as Uncounted}
 
 -- ---- one byte
@@ -147,6 +146,21 @@ onward-grows base v (b ∷ bs) w e = go (digitOf b) (λ d. onward-grows base (ba
 
 reading-of : (from to b : ℕ) → between from to b ≡ true → from ≤ b
 reading-of from to b e = leb→le from b (and-l (leb from b) (leb b to) (subst T (sym e) tt))
+
+-- no digit is above 15
+up-to : (from to b : ℕ) → between from to b ≡ true → b ≤ to
+up-to from to b e = leb→le b to (and-r (leb from b) (leb b to) (subst T (sym e) tt))
+
+pub digit-small : (b d : ℕ) → digitOf b ≡ Worth d → d < 16
+unfolding digitOf
+digit-small b d e = go (between 48 57 b) (between 65 70 b) (between 97 102 b) (up-to 48 57 b) (up-to 65 70 b) (up-to 97 102 b) e
+  where
+    go : (p q r : Bool) → (p ≡ true → b ≤ 57) → (q ≡ true → b ≤ 70) → (r ≡ true → b ≤ 102)
+        → cond p (Worth (b - 48)) (cond q (Worth (b - 65 + 10)) (cond r (Worth (b - 97 + 10)) None)) ≡ Worth d → d < 16
+    go true q r f g h e = let x : b - 48 ≡ d = cc in let y = f refl in omega arith
+    go false true r f g h e = let x : b - 65 + 10 ≡ d = cc in let y = g refl in omega arith
+    go false false true f g h e = let x : b - 97 + 10 ≡ d = cc in let y = h refl in omega arith
+    go false false false f g h e = let z : _≡_ {A = ℕ} 0 1 = cc in omega arith
 
 -- a digit that is not `0` is not 0
 digit-nonzero : (b d : ℕ) → digitOf b ≡ Worth d → (b ≡ 48 → ⊥) → 0 < d

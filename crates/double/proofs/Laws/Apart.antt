@@ -1,22 +1,22 @@
 -- A double taken apart. In order: the significand and the exponent of a magnitude and their ranges; the three fields of a pattern, and the
 -- answer that they give; what the answer means: the worth is ±s·2^e units, the parts give back the double; no two results satisfy the
 -- promise; what it tells a caller. Assumes nothing.
-use mathlib.Core.Path.{_≡_, refl, sym, ap, ap₂, _∙_, subst}
+use mathlib.Core.Path.{_≡_, refl, sym, ap, _∙_, subst}
 use mathlib.Core.Logic.{_⊎_, inl, inr, _↔_}
 use mathlib.Core.Bool.{Bool, true, false, not, cond}
 use Prim.Native.Nat.{ℕ, zero, suc, _+_, _-_, _*_, _/_, _%_, _^_, _≤_, _<_}
 use native.Mathlib.Nat.{le-trans, le-of-eq, le-div-iff-mul-le, div-mul-cancel}
 use native.Mathlib.Omega.{arith}
-use lib.Dec.{T, leb, ltb, eqb}
-use lib.IntN.{ℤ, pos, negsuc, negℤ}
+use lib.Dec.{T, leb}
+use lib.IntN.{ℤ, pos, negℤ}
 use lib.Pow.{pow-pos, pow-add}
-use lib.Ieee.{Float, nan, inf, fin, binary64, prec, low, emax, size, toBits, fits, isNan, ne}
+use lib.Ieee.{Float, nan, inf, fin, binary64, size, toBits, fits, isNan, ne}
 use lib.Ieee.Compare.{differs-from-itself}
 use lib.Ieee.Digits.{size-reaches, size-le}
 use lib.Ieee.Fits.{kept-lt}
 use lib.Ieee.Scale.{finite, overflow}
 use borrow.Author.Tests.{le-leb, lt-leb}
-use Rattle.double.specs.Worth.{mag, signBit, worth, ofUnits}
+use Rattle.double.specs.Worth.{mag, worth, ofUnits}
 use Rattle.double.specs.Outcome.{Outcome, answers, refuses, notFinite, Fixes}
 use Rattle.double.specs.Apart.{said, apartOf, exponentOf, significandOf, together}
 use Rattle.double.proofs.Laws.Digits.{Rep}

@@ -6,9 +6,9 @@ use mathlib.Core.Bool.{Bool, true, false, not}
 use Prim.Native.Nat.{ℕ, _*_, _^_, _≤_, _<_}
 use native.Mathlib.Nat.{le-trans, le-of-lt, mul-one, mul-right-comm}
 use lib.Arith.{le→nltb}
-use lib.Dec.{T, ltb, ltb→lt, nltb→le, le→leb}
+use lib.Dec.{T, ltb, ltb→lt, nltb→le}
 use lib.IntN.{pos}
-use lib.Ieee.{Float, nan, inf, fin, Format, prec, low, up, down, round, ofInt, inFloat, mul, lt}
+use lib.Ieee.{Float, nan, inf, fin, Format, prec, low, up, down, round, ofInt, mul, lt}
 use lib.Ieee.Exact.{HasValue}
 use lib.Ieee.Back.{round-whole}
 use lib.Ieee.Bits.{is-false}
@@ -23,11 +23,6 @@ use Rattle.double.proofs.Laws.Multiply.{mul-split, mul-inf}
 use Rattle.double.proofs.Laws.Difference.{rounded-less, rounded-close}
 
 -- ---- a count as a float
--- the cast of the count is defined
-pub count-in : (f : Format) (n : ℕ) → n ≤ 2 ^ prec f → T (inFloat f (pos n))
-unfolding inFloat
-count-in f n h = le→leb n (2 ^ prec f) h
-
 -- a fraction over 1 as one over 2 ^ low
 in-units : (f : Format) (x : Float) (s : Bool) (n : ℕ) → HasValue x s n 1 → HasValue x s (n * 2 ^ low f) (2 ^ low f)
 in-units f nan s n h = absurd h

@@ -95,7 +95,7 @@ rounded-least E Q h = omega arith
 rounded-most : (E Q : ℕ) → gap E Q * 2 ^ 53 ≤ Q → E * 2 ^ 53 ≤ Q * (2 ^ 53 + 1)
 rounded-most E Q h = omega arith
 
-threshold-least : (K X Y L Qc E1 QE E : ℕ) → 0 < L → 8 * L ≤ K * 2 ^ 53 → K * X ≡ Qc * L → gap E1 Qc * 2 ^ 53 ≤ Qc
+pub threshold-least : (K X Y L Qc E1 QE E : ℕ) → 0 < L → 8 * L ≤ K * 2 ^ 53 → K * X ≡ Qc * L → gap E1 Qc * 2 ^ 53 ≤ Qc
     → E1 * Y ≡ QE * L → gap E QE * 2 ^ 53 ≤ QE → 79 * (X * Y) ≤ E * L * (10 * 2 ^ 53)
 threshold-least K X Y L Qc E1 QE E l c q g r k =
     let a : 8 * X ≤ Qc * 2 ^ 53 =
@@ -149,29 +149,30 @@ signed-mul true n l = (zero-mul l, refl)
 signed-mul false n l = (refl, zero-mul l)
 
 -- ---- the filter: v and w are the signs of a * d and b * c
+some : 0 < 53
+some = zero-lt-suc 52
+
+-- the error of a rounded product of rounded differences, in squares of units
+pub rounded-error : (L A D X Y Q : ℕ) → rn 53 A * rn 53 D ≡ Q * L → rn 53 A ≤ X → rn 53 D ≤ Y → gap (A * D) (rn 53 Q * L) * 2 ^ 54 ≤ 7 * (X * Y)
+rounded-error L A D X Y Q q xa yd =
+    product-error A D (rn 53 A) (rn 53 D) Q (rn 53 Q) L (X * Y) (rn-error-of 53 A some) (rn-error-of 53 D some) q (rn-error 53 Q some) (mul-le-mul xa yd)
+
 module _ (L : ℕ) (l : 0 < L) (v w : Bool) (A B C D X Y Q1 Q2 K Qc E1 QE E d : ℕ)
     (q1 : rn 53 A * rn 53 D ≡ Q1 * L) (q2 : rn 53 B * rn 53 C ≡ Q2 * L)
     (xa : rn 53 A ≤ X) (xc : rn 53 C ≤ X) (yb : rn 53 B ≤ Y) (yd : rn 53 D ≤ Y)
     (k : 8 * L ≤ K * 2 ^ 53) (qc : K * X ≡ Qc * L) (e1 : E1 ≡ rn 53 Qc) (qe : E1 * Y ≡ QE * L) (e2 : E ≡ rn 53 QE)
     (ed : d ≡ plusOf v (rn 53 Q1) + minusOf w (rn 53 Q2) - (minusOf v (rn 53 Q1) + plusOf w (rn 53 Q2))) (gt : E < rn 53 d) where
-  P : 0 < 53
-  P = zero-lt-suc 52
-
   first-error : gap (A * D) (rn 53 Q1 * L) * 2 ^ 54 ≤ 7 * (X * Y)
-  first-error =
-      product-error A D (rn 53 A) (rn 53 D) Q1 (rn 53 Q1) L (X * Y) (rn-error-of 53 A P) (rn-error-of 53 D P) q1 (rn-error 53 Q1 P)
-      (mul-le-mul xa yd)
+  first-error = rounded-error L A D X Y Q1 q1 xa yd
 
   second-error : gap (B * C) (rn 53 Q2 * L) * 2 ^ 54 ≤ 7 * (X * Y)
-  second-error =
-      product-error B C (rn 53 B) (rn 53 C) Q2 (rn 53 Q2) L (X * Y) (rn-error-of 53 B P) (rn-error-of 53 C P) q2 (rn-error 53 Q2 P)
-      (le-trans (mul-le-mul yb xc) (le-of-eq (mul-comm Y X)))
+  second-error = le-trans (rounded-error L B C Y X Q2 q2 yb xc) (le-of-eq (ap (λ (z : ℕ). 7 * z) (mul-comm Y X)))
 
   least : (15 * (X * Y) ≤ d * L * 2 ^ 54) × (0 < d * L)
   least =
-      difference-least d (rn 53 d) E L (X * Y) (rn-error 53 d P) gt l
-      (threshold-least K X Y L Qc E1 QE E l k qc (subst (λ (z : ℕ). gap z Qc * 2 ^ 53 ≤ Qc) (sym e1) (rn-error 53 Qc P))
-      qe (subst (λ (z : ℕ). gap z QE * 2 ^ 53 ≤ QE) (sym e2) (rn-error 53 QE P)))
+      difference-least d (rn 53 d) E L (X * Y) (rn-error 53 d some) gt l
+      (threshold-least K X Y L Qc E1 QE E l k qc (subst (λ (z : ℕ). gap z Qc * 2 ^ 53 ≤ Qc) (sym e1) (rn-error 53 Qc some))
+      qe (subst (λ (z : ℕ). gap z QE * 2 ^ 53 ≤ QE) (sym e2) (rn-error 53 QE some)))
 
   rounded-difference : plusOf v (rn 53 Q1 * L) + minusOf w (rn 53 Q2 * L) ≡ d * L + (minusOf v (rn 53 Q1 * L) + plusOf w (rn 53 Q2 * L))
   rounded-difference =

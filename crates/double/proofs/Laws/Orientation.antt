@@ -5,7 +5,7 @@
 use mathlib.Core.Path.{_≡_, ap, _∙_}
 use mathlib.Core.Bool.{Bool, true, false, not}
 use mathlib.Core.Logic.{_⊎_, inl, inr}
-use Prim.Native.Nat.{ℕ, suc, _+_, _-_, _*_, _≤_, _<_}
+use Prim.Native.Nat.{ℕ, suc, _+_, _-_, _*_, _^_, _≤_, _<_}
 use native.Mathlib.Nat.{add-mul, mul-add}
 use native.Mathlib.Omega.{arith}
 use lib.Dec.{T, ltb, ltb→lt, nltb→le}
@@ -134,6 +134,12 @@ pub record Filtered (px py qx qy rx ry X Y : Float) : Type 0 where
   pub second-real : Real binary64 (mul binary64 (sub binary64 qy py) (sub binary64 rx px))
   pub d-real : Real binary64 (sideDifference px py qx qy rx ry)
   pub e-real : Real binary64 (threshold X Y)
+  -- "the filter's error bound" in squares of units, as `Threshold` has it
+  pub first-error : gap (apart qx px * apart ry py) (mag binary64 (mul binary64 (sub binary64 qx px) (sub binary64 ry py)) * 2 ^ 1074) * 2 ^ 54
+      ≤ 7 * (mag binary64 X * mag binary64 Y)
+  pub second-error : gap (apart qy py * apart rx px) (mag binary64 (mul binary64 (sub binary64 qy py) (sub binary64 rx px)) * 2 ^ 1074) * 2 ^ 54
+      ≤ 7 * (mag binary64 X * mag binary64 Y)
+  pub e-least : 79 * (mag binary64 X * mag binary64 Y) ≤ mag binary64 (threshold X Y) * 2 ^ 1074 * (10 * 2 ^ 53)
   pub positive : T (lt (threshold X Y) (sideDifference px py qx qy rx ry)) → pos 0 <ᶻ determinant px py qx qy rx ry
   pub negative : T (lt (sideDifference px py qx qy rx ry) (neg (threshold X Y))) → determinant px py qx qy rx ry <ᶻ pos 0
   pub level : (mag binary64 X ≡ 0) ⊎ (mag binary64 Y ≡ 0) → determinant px py qx qy rx ry ≡ pos 0
@@ -185,6 +191,9 @@ module _ (k : ℕ) (h : k ≤ 434) (px py qx qy rx ry X Y : Float)
         second-real = four .second-real;
         d-real = four .d-real;
         e-real = four .e-real;
+        first-error = four .first-error;
+        second-error = four .second-error;
+        e-least = four .e-least;
         positive = λ t. by-positive det (both-above (plusOf v f) (minusOf v f)
             (gain qx px * loss ry py + loss qx px * gain ry py) (gain qx px * gain ry py + loss qx px * loss ry py)
             (plusOf w s) (minusOf w s) (gain qy py * loss rx px + loss qy py * gain rx px)

@@ -3,7 +3,7 @@
 use mathlib.Core.Path.{_≡_, refl, sym, ap, _∙_, subst}
 use mathlib.Core.Bool.{Bool, true, false, not}
 use Prim.Native.Nat.{ℕ, _*_, _%_, _≤_, _<_}
-use lib.Dec.{T, ltb}
+use lib.Dec.{T}
 use lib.Ieee.{Float, nan, inf, fin, binary64, isNan, ofBits, toBits, nanBits, ones, hid, top, ne}
 use lib.Ieee.Compare.{differs-from-itself}
 use lib.Ieee.Bits.{nanBits-is, nanBits-above}

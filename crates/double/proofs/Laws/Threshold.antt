@@ -2,10 +2,10 @@
 -- greater magnitudes, E is (constant * X) * Y and D is a * d - b * c, each operation rounded. Where D is above E the exact a * d is above
 -- the exact b * c, and where it is below -E it is below. In order: the constant; the comparisons with E and -E; the two products and E in
 -- units; the decision. Not here: the numbers (`Filter`); the determinant (`Orientation`). Assumes nothing.
-use mathlib.Core.Path.{_≡_, refl, sym, ap₂, _∙_, subst}
+use mathlib.Core.Path.{_≡_, refl, sym, ap, ap₂, _∙_, subst}
 use mathlib.Core.Bool.{Bool, true, false}
 use Prim.Native.Nat.{ℕ, suc, _+_, _-_, _*_, _^_, _≤_, _<_}
-use native.Mathlib.Nat.{le-trans, le-of-eq, lt-of-le-of-lt, mul-comm, dvd-mul-left, two-pow-succ}
+use native.Mathlib.Nat.{le-trans, le-of-eq, lt-of-le-of-lt, mul-comm, dvd-mul-left, two-pow-succ, zero-lt-suc}
 use native.Mathlib.Omega.{arith}
 use lib.Dec.{T, lit≤, ltb→lt}
 use lib.Pow.{pow-pos, pow-lt}
@@ -14,14 +14,14 @@ use lib.Ieee.{Float, fin, binary64, ofBits, sub, mul, neg, lt, unlike, fits}
 use lib.Ieee.Scale.{overflow}
 use Rattle.double.specs.Worth.{mag, plus, minus}
 use Rattle.double.proofs.Laws.Digits.{gap}
-use Rattle.double.proofs.Laws.Rounding.{rn}
+use Rattle.double.proofs.Laws.Rounding.{rn, rn-error}
 use Rattle.double.proofs.Laws.Units.{Real, Parts}
 use Rattle.double.proofs.Laws.Sum.{sub-law}
 use Rattle.double.proofs.Laws.Compare.{lt-is}
 use Rattle.double.proofs.Laws.Signed.{Split, neg-split}
 use Rattle.double.proofs.Laws.Sized.{Sided, sized-of, split-mag, unitsOf, units-whole, mul-sided, rn-pow}
 use Rattle.double.proofs.Laws.Greater.{Greater, greater-sided}
-use Rattle.double.proofs.Laws.Filter.{plusOf, minusOf, filter}
+use Rattle.double.proofs.Laws.Filter.{plusOf, minusOf, rounded-error, threshold-least, filter}
 
 -- ---- the constant: the double nearest to 8.8872057372592758e-16
 abbrev pub filterConstant : Float
@@ -103,6 +103,11 @@ pub record Decided (sa sb sc sd : Bool) (A B C D : ℕ) (a b c d X Y : Float) : 
   pub second-real : Real binary64 (mul binary64 b c)
   pub d-real : Real binary64 (difference a b c d)
   pub e-real : Real binary64 (threshold X Y)
+  -- "the filter's error bound" in squares of units: each rounded product is within 7 / 2 ^ 54 of X * Y of the exact one, and E, which is
+  -- more than the two together, is at least 7.9 / 2 ^ 53 of it
+  pub first-error : gap (A * D) (mag binary64 (mul binary64 a d) * 2 ^ 1074) * 2 ^ 54 ≤ 7 * (mag binary64 X * mag binary64 Y)
+  pub second-error : gap (B * C) (mag binary64 (mul binary64 b c) * 2 ^ 1074) * 2 ^ 54 ≤ 7 * (mag binary64 X * mag binary64 Y)
+  pub e-least : 79 * (mag binary64 X * mag binary64 Y) ≤ mag binary64 (threshold X Y) * 2 ^ 1074 * (10 * 2 ^ 53)
   pub above : T (lt (threshold X Y) (difference a b c d))
       → minusOf (unlike sa sd) (A * D) + plusOf (unlike sb sc) (B * C) < plusOf (unlike sa sd) (A * D) + minusOf (unlike sb sc) (B * C)
   pub below : T (lt (difference a b c d) (neg (threshold X Y)))
@@ -213,6 +218,14 @@ module _ (k : ℕ) (h : k ≤ 434) (sa sb sc sd : Bool) (A B C D : ℕ) (a b c d
     second-real = second .split .real;
     d-real = difference-parts v w (mul binary64 a d) (mul binary64 b c) (rn 53 Q1) (rn 53 Q2) (first .split) (second .split) room .real;
     e-real = e .split .real;
+    first-error = subst (λ (n : ℕ). gap (A * D) (n * 2 ^ 1074) * 2 ^ 54 ≤ 7 * (mag binary64 X * mag binary64 Y)) (sym (split-mag (first .split)))
+        (rounded-error (2 ^ 1074) A D (mag binary64 X) (mag binary64 Y) Q1 first-whole (under ra (GX .first)) (under rd (GY .second)));
+    second-error = subst (λ (n : ℕ). gap (B * C) (n * 2 ^ 1074) * 2 ^ 54 ≤ 7 * (mag binary64 X * mag binary64 Y)) (sym (split-mag (second .split)))
+        (le-trans (rounded-error (2 ^ 1074) B C (mag binary64 Y) (mag binary64 X) Q2 second-whole (under rb (GY .first)) (under rc (GX .second)))
+        (le-of-eq (ap (λ (z : ℕ). 7 * z) (mul-comm (mag binary64 Y) (mag binary64 X)))));
+    e-least = subst (λ (n : ℕ). 79 * (mag binary64 X * mag binary64 Y) ≤ n * 2 ^ 1074 * (10 * 2 ^ 53)) (sym (split-mag (e .split)))
+        (threshold-least constantUnits (mag binary64 X) (mag binary64 Y) (2 ^ 1074) Qc (rn 53 Qc) QE (rn 53 QE) (pow-pos 1074)
+        constant-least cX-whole (rn-error 53 Qc (zero-lt-suc 52)) e-whole (rn-error 53 QE (zero-lt-suc 52)));
     above = λ t. filter (2 ^ 1074) (pow-pos 1074) v w A B C D (mag binary64 X) (mag binary64 Y) Q1 Q2 constantUnits Qc (rn 53 Qc)
         QE (rn 53 QE) (plusOf v (rn 53 Q1) + minusOf w (rn 53 Q2) - (minusOf v (rn 53 Q1) + plusOf w (rn 53 Q2))) first-whole second-whole
         (under ra (GX .first)) (under rc (GX .second)) (under rb (GY .first)) (under rd (GY .second))

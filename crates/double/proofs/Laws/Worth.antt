@@ -19,7 +19,7 @@ use Rattle.double.specs.Worth.{signBit, mag, plus, minus, worth, ofUnits
 use Rattle.double.proofs.Laws.Digits.{Rep}
 use Rattle.double.proofs.Laws.Rounding.{rn, rn-fixed}
 use Rattle.double.proofs.Laws.Compare.{lt-is, le-is, eq-is}
-use Rattle.double.proofs.Laws.Units.{Real, mag-zero-parts, value-mag, value-signBit, value-finite}
+use Rattle.double.proofs.Laws.Units.{Real, value-mag, value-signBit, value-finite}
 use Rattle.double.proofs.Laws.Units.{ofUnits-fits, ofUnits-value, ofUnits-own}
 
 -- a sign and a magnitude
@@ -60,10 +60,6 @@ worth-zero x = (signed-zero (signBit x) (mag binary64 x), λ e. ap (signed (sign
     either : (s : Bool) → signed s 0 ≡ pos 0
     either false = refl
     either true = refl
-
-pub worth-zero-parts : (x : Float) → (worth x ≡ pos 0) ↔ ((plus binary64 x ≡ 0) × (minus binary64 x ≡ 0))
-worth-zero-parts x =
-    (λ e. mag-zero-parts binary64 x .0 (worth-zero x .0 e), λ h. worth-zero x .1 (mag-zero-parts binary64 x .1 h))
 
 -- the magnitude without the sign
 signed-natAbs : (s : Bool) (n : ℕ) → natAbs (signed s n) ≡ n

@@ -1,13 +1,13 @@
 -- The edges of a zone. In order: edge k of a flat list of corners, and how many there are; a value between two ends; one of two finite
 -- values is at most the other or above it; a point on an edge, and how an edge counts, by the comparisons and the sign.
 -- Not here: all edges together (`Zone`), the sign itself (`Side`). Assumes nothing.
-use mathlib.Core.Path.{_≡_, refl, sym, ap, ap₂, _∙_}
+use mathlib.Core.Path.{_≡_, refl, sym, ap, ap₂, _∙_, subst}
 use mathlib.Core.Bool.{Bool, true, false, not, cond, _&&_, _||_}
 use mathlib.Core.List.{List, [], _∷_}
 use Prim.Native.Nat.{ℕ, zero, suc, _+_, _*_, _<_}
 use native.Mathlib.Numerals.{add-one}
 use native.Mathlib.Omega.{arith}
-use lib.Dec.{leb, ltb}
+use lib.Dec.{T, leb, ltb}
 use lib.IntN.{ℤ, pos, negsuc}
 use lib.ListN.{length, drop, getD}
 use lib.Ieee.{Float, Format, nan, lt, le}
@@ -20,7 +20,7 @@ use Rattle.double.proofs.Laws.Compare.{lt-is, le-is}
 use Rattle.sum.specs.Total.{signNumber}
 use Rattle.sum.specs.declared.answer.Sign.{Sign}
 use Rattle.geometry.specs.Zone.{cornersOf, Edge, edge, edgesFrom, edgesOf, cornerAt, nextOf}
-use Rattle.geometry.specs.Zone.{isZero, isPositive, isNegative, sideOfEdge, between, onEdge, isUp, isDown, crossingOf}
+use Rattle.geometry.specs.Zone.{isZero, isPositive, isNegative, sideOfEdge, between, straddling, onEdge, isUp, isDown, crossingOf}
 use Rattle.geometry.specs.declared.edges.Crossing.{Crossing}
 use Rattle.geometry.specs.declared.edges.Crossing.the-variants.{None, Up, Down}
 
@@ -114,6 +114,15 @@ module _ (a b v : Float) where
   pub between-not : (le a v && le v b) ≡ false → le b v ≡ false → false ≡ between a b v
   between-not h k = sym (ap₂ (λ (p q : Bool). p || (q && le v a)) h k)
 
+  pub past-up : le a v ≡ true → lt v b ≡ true → true ≡ straddling a b v
+  past-up h k = rw (h, k)
+
+  pub past-down : (le a v && lt v b) ≡ false → le b v ≡ true → lt v a ≡ straddling a b v
+  past-down h k = sym (ap₂ (λ (p q : Bool). p || (q && lt v a)) h k)
+
+  pub past-not : (le a v && lt v b) ≡ false → le b v ≡ false → false ≡ straddling a b v
+  past-not h k = sym (ap₂ (λ (p q : Bool). p || (q && lt v a)) h k)
+
 -- of two finite values, one is at most the other or above it
 pub above-is : (f : Format) (x y : Float) → Real f x → Real f y → lt y x ≡ not (le x y)
 above-is f x y u v = lt-is f y x v u ∙ turned (plus f x + minus f y) (plus f y + minus f x) ∙ ap not (sym (le-is f x y u v))
@@ -201,6 +210,18 @@ module _ (a b c d e f : Bool) where
 
   crossed-over : a ≡ false → d ≡ false → None ≡ crossed a b c d e f
   crossed-over h k = rw (h, k)
+
+-- an edge that is not past y counts neither way
+not-past : (a b : Bool) → (a || b) ≡ false → (c f : Bool) → None ≡ cond (a && c) Up (cond (b && f) Down None)
+not-past true b h c f = absurd (subst T h tt)
+not-past false true h c f = absurd (subst T h tt)
+not-past false false h c f = refl
+
+pub crossing-beside : (e : Edge) (p : Point) → straddling (e .from .y) (e .to .y) (p .y) ≡ false → None ≡ crossingOf e p
+unfolding isUp isDown
+crossing-beside e p h =
+    not-past (le (e .from .y) (p .y) && lt (p .y) (e .to .y)) (le (e .to .y) (p .y) && lt (p .y) (e .from .y)) h
+    (isPositive (sideOfEdge e p)) (isNegative (sideOfEdge e p))
 
 -- an edge whose start is at most y does not go down past y: y is then not below that start
 module _ (e : Edge) (p : Point) (order : lt (p .y) (e .from .y) ≡ not (le (e .from .y) (p .y))) where

@@ -4,7 +4,7 @@
 use mathlib.Core.Path.{_≡_, sym, ap, ap₂, _∙_}
 use mathlib.Core.List.{List}
 use Prim.Native.Nat.{ℕ, _≤_}
-use native.Mathlib.Nat.{le-trans, le-of-eq}
+use native.Mathlib.Nat.{le-refl, le-trans, le-of-eq}
 use native.Mathlib.Omega.{arith}
 use lib.Dec.{lit≤}
 use lib.IntN.{ℤ}
@@ -26,7 +26,7 @@ use Rattle.sum.specs.declared.answer.Run.{Run}
 use Rattle.sum.specs.declared.answer.Run.the-variants.{Done, Refused}
 use Rattle.sum.proofs.Laws.Entries.{AllReal, real-finite}
 use Rattle.sum.proofs.Laws.Refused.{checked-accepted}
-use Rattle.sum.proofs.Laws.Descent.{ceiling-enough, ceiling-sign}
+use Rattle.sum.proofs.Laws.Descent.{ceiling-steps, ceiling-enough, ceiling-sign}
 use Rattle.geometry.specs.Determinant.{determinant}
 use Rattle.geometry.specs.Product.{summandsOf}
 use Rattle.geometry.specs.Side.{turned, mostSteps, verdictNumber, exactOf}
@@ -57,6 +57,15 @@ module _ (p q r : Point) (P : Within reach p) (Q : Within reach q) (R : Within r
   short : length (summandsOf p q r) ≤ limit
   short = le-trans (le-of-eq (summands-length p q r)) (lit≤ tt)
 
+  -- "For a side question the count is never above 480", whatever the budget is, and a budget of so many always decides
+  pub exact-steps : (budget : ℕ) → ranFrom budget 0 (summandsOf p q r) .steps ≤ mostSteps
+  exact-steps budget =
+      le-trans (ceiling-steps budget (summandsOf p q r) (summands-real p q r P Q R) short) (summands-ceiling p q r P Q R)
+
+  pub exact-decides : (budget : ℕ) → mostSteps ≤ budget → (s : Sign) × (ranFrom budget 0 (summandsOf p q r) .verdict ≡ Decided s)
+  exact-decides budget h =
+      ceiling-enough budget (summandsOf p q r) (summands-real p q r P Q R) short (le-trans (summands-ceiling p q r P Q R) h)
+
   -- what is said of the run on the summands
   module _ {xs left : List Float} {v : Run} (e : xs ≡ summandsOf p q r) (says : RunSays xs mostSteps v left) where
     run-said : said v ≡ answers (told (run .verdict) (run .steps))
@@ -78,7 +87,7 @@ module _ (p q r : Point) (P : Within reach p) (Q : Within reach q) (R : Within r
     -- the budget is enough
     pub exact-undecided : {A : Type 0} {ran : Ran} → v ≡ Done ran → ran .verdict ≡ Undecided → A
     exact-undecided {A} {ran} d u =
-        let (s, g) = ceiling-enough mostSteps (summandsOf p q r) (summands-real p q r P Q R) short (summands-ceiling p q r P Q R) in
+        let (s, g) = exact-decides mostSteps (le-refl mostSteps) in
         let h : undecided ≡ sign (signNumber s) =
         ap decision (sym u) ∙ ap (λ (t : Told). t .decided) (run-done ran d) ∙ ap decision g in
         never (cc)

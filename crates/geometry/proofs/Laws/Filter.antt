@@ -11,7 +11,7 @@ use lib.Dec.{T, lit≤, lit<}
 use lib.IntN.{pos}
 use lib.Ieee.{Float, binary64, ofBits, sub, neg, lt, eq}
 use Rattle.whole.specs.Order.{_<ᶻ_}
-use Rattle.double.specs.Worth.{mag}
+use Rattle.double.specs.Worth.{mag, plus0}
 use Rattle.double.proofs.Laws.Sized.{Reach, sub-range}
 use Rattle.double.proofs.Laws.Greater.{greater-of, zero-test}
 use Rattle.double.proofs.Laws.Orientation.{Filtered, filtered-farther}
@@ -19,7 +19,7 @@ use Rattle.point.specs.declared.Point.{Point}
 use Rattle.point.specs.Accepted.{reach, magnitudeOf}
 use Rattle.sum.specs.declared.answer.Sign.the-variants.{Minus, Zero, Plus}
 use Rattle.geometry.specs.Determinant.{determinant}
-use Rattle.geometry.specs.Filter.{plus0, greater, spanOf, thresholdOf, differenceOf, clearBy, filterBy, filterOf, FilterSays}
+use Rattle.geometry.specs.Filter.{greater, spanOf, thresholdOf, differenceOf, clearBy, filterBy, filterOf, FilterSays}
 use Rattle.geometry.specs.declared.filter.Early.{Early}
 use Rattle.geometry.specs.declared.filter.Early.the-variants.{Level, Clear, Open}
 use Rattle.geometry.proofs.Laws.Product.{Within}

@@ -26,8 +26,7 @@ use Rattle.point.specs.Accepted.{reach}
 use Rattle.sum.specs.Total.{totalOf}
 use Rattle.sum.specs.Limit.{divisor}
 use Rattle.sum.specs.Ceiling.{grainOf, roundUp, weightOf, ceilingOf}
-use Rattle.sum.specs.Refused.{AllFinite}
-use Rattle.sum.proofs.Laws.Entries.{All, AllReal, all-at, all-of, real-finite}
+use Rattle.sum.proofs.Laws.Entries.{All, AllReal, all-at, all-of}
 use Rattle.sum.proofs.Laws.Grain.{grain-greatest}
 use Rattle.sum.proofs.Laws.Ceiling.{ceiling-zeros}
 use Rattle.geometry.specs.Determinant.{determinant}
@@ -183,9 +182,6 @@ module _ (k : ℕ) (room : k ≤ 485) (p q r : Point) (P : Within k p) (Q : With
 module _ (p q r : Point) (P : Within reach p) (Q : Within reach q) (R : Within reach r) where
   pub summands-real : AllReal (summandsOf p q r)
   summands-real = summands-real-within reach (lit≤ tt) p q r P Q R
-
-  pub summands-finite : AllFinite (summandsOf p q r)
-  summands-finite = real-finite (summandsOf p q r) summands-real
 
   pub summands-total : totalOf (summandsOf p q r) *ℤ unit ≡ determinant p q r
   summands-total = summands-total-within reach (lit≤ tt) p q r P Q R

@@ -21,8 +21,8 @@ use Rattle.point.specs.declared.Point.{Point}
 use Rattle.point.specs.Accepted.{acceptedOf, acceptingFrom}
 use Rattle.geometry.specs.Side.{Accepted}
 use Rattle.geometry.specs.Zone.{fewest, most, cornersOf, Edge, edge, edgesOf, isPositive, isNegative, sideOfEdge}
-use Rattle.geometry.specs.Zone.{onEdge, isUp, isDown, crossingOf, countOf, parity, walk, placeOf, cornerAt, nextOf}
-use Rattle.geometry.specs.Zone.{withEdge, countsOf, cornersFault, faultSaid, Zoned, zoneSaid, zoneOf}
+use Rattle.geometry.specs.Zone.{onEdge, isUp, isDown, crossingOf, countOf, Lies, outside, border, inside, parity, walk, placeOf, cornerAt}
+use Rattle.geometry.specs.Zone.{nextOf, withEdge, countsOf, cornersFault, faultSaid, Zoned, placeSaid, zoneSaid, zoneOf}
 use Rattle.geometry.specs.declared.edges.Crossing.the-variants.{None, Up, Down}
 use Rattle.geometry.specs.declared.zones.Counts.{Counts}
 use Rattle.geometry.specs.declared.zones.Fault.the-variants.{None as FaultNone, At as FaultAt}
@@ -77,10 +77,10 @@ count-most is (e ∷ es) p = go (is e p) (count-most is es p)
 
 -- ---- the place
 -- what is answered off the border, and by the walk from edge k on
-abbrev pub offBorder : List Edge → Point → Place
+abbrev pub offBorder : List Edge → Point → Lies
 offBorder es p = parity (countOf isUp es p + countOf isDown es p)
 
-abbrev pub walkFrom : List Float → Point → ℕ → Place
+abbrev pub walkFrom : List Float → Point → ℕ → Lies
 walkFrom xs p k = walk k (drop k (edgesOf (cornersOf xs))) p (offBorder (edgesOf (cornersOf xs)) p)
 
 pub walk-start : (xs : List Float) (p : Point) → walkFrom xs p 0 ≡ placeOf (edgesOf (cornersOf xs)) p
@@ -88,14 +88,14 @@ unfolding placeOf
 walk-start xs p = refl
 
 module _ (es : List Edge) (p : Point) (t : Counts) (e : t ≡ countsOf es p) where
-  pub off-inside : (t .ups + t .downs) % 2 ≡ 1 → Inside ≡ offBorder es p
+  pub off-inside : (t .ups + t .downs) % 2 ≡ 1 → inside ≡ offBorder es p
   off-inside h =
-      let i : Inside ≡ parity (t .ups + t .downs) = rw (eq-eqb ((t .ups + t .downs) % 2) 1 h) in
+      let i : inside ≡ parity (t .ups + t .downs) = rw (eq-eqb ((t .ups + t .downs) % 2) 1 h) in
       i ∙ ap (λ (t : Counts). parity (t .ups + t .downs)) e
 
-  pub off-outside : ((t .ups + t .downs) % 2 ≡ 1 → ⊥) → Outside ≡ offBorder es p
+  pub off-outside : ((t .ups + t .downs) % 2 ≡ 1 → ⊥) → outside ≡ offBorder es p
   off-outside h =
-      let o : Outside ≡ parity (t .ups + t .downs) = rw (ne-eqb ((t .ups + t .downs) % 2) 1 h) in
+      let o : outside ≡ parity (t .ups + t .downs) = rw (ne-eqb ((t .ups + t .downs) % 2) 1 h) in
       o ∙ ap (λ (t : Counts). parity (t .ups + t .downs)) e
 
 -- ---- the edges of a flat list, from edge k on
@@ -135,7 +135,7 @@ module _ (xs : List Float) (n : ℕ) (p : Point) (size : length xs ≡ 2 * n) wh
       omega (arith, count-most is (drop k es) p, length-drop k es, edges-length xs n size)
 
   -- the walk goes from the first edge to the last
-  pub walk-here : (k : ℕ) → k < n → onEdge (edge (cornerAt xs k) (cornerAt xs (nextOf n k))) p ≡ true → walkFrom xs p k ≡ Border k
+  pub walk-here : (k : ℕ) → k < n → onEdge (edge (cornerAt xs k) (cornerAt xs (nextOf n k))) p ≡ true → walkFrom xs p k ≡ border k
   unfolding walk
   walk-here k h e = rw (edges-drop xs n k size h, e)
 
@@ -219,7 +219,7 @@ zone-zoned xs even some few h = record {
 
 -- ---- the refusals in their order
 module _ (xs : List Float) (p : Point) where
-  abbrev placed : Place
+  abbrev placed : Lies
   placed = placeOf (edgesOf (cornersOf xs)) p
 
   pub zone-odd : length xs % 2 ≡ 1 → refuses oddLength 0 ≡ zoneOf xs p
@@ -260,14 +260,26 @@ module _ (xs : List Float) (p : Point) where
           unfolding faultSaid zoneSaid withAnswer
           zone-corner r h = ap (withAnswer placed) h ∙ corners-judged
 
-          pub zone-place : faultSaid FaultNone ≡ cornersFault xs → (place : Place) → place ≡ placed → zoneSaid (At place) ≡ zoneOf xs p
+          pub zone-place : faultSaid FaultNone ≡ cornersFault xs → (place : Place) → placeSaid place ≡ placed → zoneSaid (At place) ≡ zoneOf xs p
           unfolding faultSaid zoneSaid withAnswer
           zone-place h place e = ap answers e ∙ ap (withAnswer placed) h ∙ corners-judged
 
 -- ---- no two results satisfy the promise
+place-once : (a b : Place) → placeSaid a ≡ placeSaid b → a ≡ b
+unfolding placeSaid
+place-once Outside Outside e = refl
+place-once Outside (Border k) e = cc
+place-once Outside Inside e = cc
+place-once (Border k) Outside e = cc
+place-once (Border k) (Border j) e = ap Border (cc)
+place-once (Border k) Inside e = cc
+place-once Inside Outside e = cc
+place-once Inside (Border k) e = cc
+place-once Inside Inside e = refl
+
 said-once : (a b : Zone) → zoneSaid a ≡ zoneSaid b → a ≡ b
 unfolding zoneSaid
-said-once (At m) (At n) e = cc
+said-once (At m) (At n) e = ap At (place-once m n (cc))
 said-once (At m) (Refused r) e = cc
 said-once (Refused r) (At n) e = cc
 said-once (Refused r) (Refused q) e = ap Refused (refuses-once r q e)

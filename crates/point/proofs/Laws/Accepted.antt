@@ -3,8 +3,8 @@
 -- Assumes nothing.
 use mathlib.Core.Path.{_≡_, refl, sym, ap, ap₂, _∙_, subst}
 use mathlib.Core.Logic.{_⊎_, inl, inr}
-use mathlib.Core.Bool.{Bool, true, false, not, _&&_, _||_, cond}
-use Prim.Native.Nat.{ℕ, zero, suc, _+_, _-_, _^_, _≤_, _<_, _∣_, zero-le}
+use mathlib.Core.Bool.{Bool, true, false, _&&_, _||_, cond}
+use Prim.Native.Nat.{ℕ, _+_, _-_, _^_, _≤_, _<_, _∣_, zero-le}
 use native.Mathlib.Nat.{add-zero, zero-add, le-refl, le-trans, le-of-eq, dvd-zero}
 use native.Mathlib.Omega.{arith}
 use borrow.Author.Tests.{ltb-true, ltb-false, leb-true, ne-eqb}
@@ -13,7 +13,6 @@ use lib.IntN.{ℤ}
 use lib.Pow.{pow-pos}
 use lib.Ieee.{Float, Format, nan, inf, fin, binary64, lt, le, eq, neg, ofBits, fits, size}
 use lib.Ieee.Fits.{and-l, and-r}
-use lib.Ieee.Scale.{finite}
 use Rattle.double.specs.Worth.{mag, plus, minus, signBit}
 use Rattle.double.specs.Outcome.{Fixes}
 use Rattle.double.proofs.Laws.Digits.{dvd-lower, size-gt, rep-dvd}
@@ -21,7 +20,7 @@ use Rattle.double.proofs.Laws.Units.{Real, Parts, mag-rep}
 use Rattle.double.proofs.Laws.Compare.{lt-is, le-is, eq-is}
 use Rattle.double.proofs.Laws.Zero.{plusZero, zero-real, zero-mag}
 use Rattle.double.proofs.Laws.Sum.{neg-plus, neg-minus, neg-real}
-use Rattle.point.specs.Accepted.{inRange, acceptedWithin, acceptedOf, reach, magnitudeOf}
+use Rattle.point.specs.Accepted.{acceptedWithin, acceptedOf, reach, magnitudeOf}
 
 -- ---- a magnitude lies above 0
 sides : (f : Format) (x : Float) → ((plus f x ≡ mag f x) × (minus f x ≡ 0)) ⊎ ((plus f x ≡ 0) × (minus f x ≡ mag f x))

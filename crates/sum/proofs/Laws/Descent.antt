@@ -16,10 +16,10 @@ use lib.Pow.{shr-mono}
 use lib.Ieee.{Float, binary64, prec, size}
 use lib.Ieee.Digits.{size-le}
 use Rattle.whole.specs.Sign.{sgn}
-use Rattle.double.specs.Worth.{mag}
+use Rattle.double.specs.Worth.{mag, plus0}
 use Rattle.double.proofs.Laws.Digits.{size-mono, size-gt, size-scale}
 use Rattle.sum.specs.Limit.{limit, power}
-use Rattle.sum.specs.Look.{plus0, countOf, extremeOf, indexOf, verdictOf}
+use Rattle.sum.specs.Look.{countOf, extremeOf, indexOf, verdictOf}
 use Rattle.sum.specs.Step.{put, stepOf}
 use Rattle.sum.specs.Total.{totalOf}
 use Rattle.sum.specs.Run.{ranFrom, decision, sign}

@@ -14,12 +14,12 @@ use lib.Arith.{lt→nleb}
 use lib.Dec.{T, ltb, leb, ltb→lt, lt→ltb, nltb→le, leb→le, le→leb, nleb→lt}
 use lib.ListN.{length, getD}
 use lib.Ieee.{Float, binary64, lt, ofBits}
-use Rattle.double.specs.Worth.{signBit, mag, plus, minus}
+use Rattle.double.specs.Worth.{signBit, mag, plus, minus, plus0}
 use Rattle.double.proofs.Laws.Units.{Real}
 use Rattle.double.proofs.Laws.Compare.{le-is}
 use Rattle.double.proofs.Laws.Signed.{part}
 use Rattle.double.proofs.Laws.Zero.{plusZero, zero-real, lt-positive, lt-negative}
-use Rattle.sum.specs.Look.{plus0, onSide, asFar, countOf, extremeOf, indexOf}
+use Rattle.sum.specs.Look.{onSide, asFar, countOf, extremeOf, indexOf}
 use Rattle.sum.proofs.Laws.Entries.{AllReal, all-at}
 
 -- ---- how far x lies on the side s, in units; 0 for what is on the other side. Shut, so that `omega` sees no power of two

@@ -1,12 +1,11 @@
 -- What a look decides, one law to a case. Not here: that the extremes are what their names say, and that the sign is the total's.
 -- Assumes nothing.
-use mathlib.Core.Path.{_≡_, refl, sym, ap, _∙_}
-use mathlib.Core.Bool.{Bool, true, false, cond}
+use mathlib.Core.Path.{_≡_, sym, ap, _∙_}
+use mathlib.Core.Bool.{true, false}
 use Prim.Native.Nat.{ℕ}
 use lib.Ieee.{Float, lt, neg}
-use Rattle.sum.specs.Look.{times, compared, verdictBy}
+use Rattle.sum.specs.Look.{times, verdictBy}
 use Rattle.sum.specs.declared.answer.Sign.the-variants.{Minus, Zero, Plus}
-use Rattle.sum.specs.declared.answer.Verdict.{Verdict}
 use Rattle.sum.specs.declared.answer.Verdict.the-variants.{Decided, Undecided}
 use Rattle.sum.specs.declared.look.Look.{Look}
 use Rattle.sum.specs.declared.look.Look.the-variants.{Neither, Positive, Negative, Both}

@@ -1,16 +1,16 @@
 -- The plain sum. In order: what the entries done so far add and take away, each below a bound, and the words that hold it; before the
 -- first entry; one entry more; after the last, the sign of the words is the sign of the total; no two results satisfy the promise; a run
 -- answers the same. Not here: words (`Words`); refusals (`Refused`). Assumes nothing.
-use mathlib.Core.Path.{_≡_, refl, sym, ap, _∙_, subst}
+use mathlib.Core.Path.{_≡_, refl, sym, ap, _∙_}
 use mathlib.Core.Logic.{_⊎_, inl, inr}
 use mathlib.Core.Bool.{Bool, true, false, cond}
-use mathlib.Core.List.{List, [], _∷_}
+use mathlib.Core.List.{List, []}
 use Prim.Native.Nat.{ℕ, zero, suc, _+_, _*_, _^_, _≤_, _<_}
 use native.Mathlib.Nat.{le-trans, le-of-lt, lt-of-lt-of-le, lt-of-le-of-lt, mul-le-mul-right, eq-zero-or-pos}
 use native.Mathlib.Numerals.{add-one}
 use native.Mathlib.Omega.{arith}
-use lib.Dec.{T, leb, ltb, eqb, ltb→lt, lit≤}
-use lib.IntN.{ℤ, pos, negsuc, negℤ, _+ℤ_, _-ℤ_}
+use lib.Dec.{leb, eqb, ltb→lt, lit≤}
+use lib.IntN.{ℤ, pos, negℤ, _+ℤ_, _-ℤ_}
 use lib.ListN.{length, getD, drop, drop-of-length-le}
 use lib.Pow.{pow-mono, shl-lt}
 use lib.Seq.{drop-cons}
@@ -20,7 +20,7 @@ use Rattle.whole.specs.Sign.{sgn}
 use Rattle.whole.proofs.Laws.Parts.{up, dn, up-neg, dn-neg, add-parts, ≡-parts}
 use Rattle.whole.proofs.Laws.Sign.{sgn-nat-positive, sgn-nat-zero, sgn-nat-negative}
 use Rattle.double.specs.Worth.{worth}
-use Rattle.double.specs.Outcome.{Outcome, answers, Fixes}
+use Rattle.double.specs.Outcome.{answers, Fixes}
 use Rattle.double.specs.declared.answer.Parts.{Parts}
 use Rattle.double.proofs.Laws.Apart.{Means}
 use Rattle.double.proofs.Laws.Outcome.{refuses-once}

@@ -3,7 +3,7 @@
 use mathlib.Core.Path.{_≡_, refl, sym, ap, _∙_, subst}
 use mathlib.Core.Bool.{Bool, true, false, cond}
 use mathlib.Core.List.{List, [], _∷_}
-use Prim.Native.Nat.{ℕ, zero, suc, _+_, _≤_, _<_}
+use Prim.Native.Nat.{ℕ, _+_, _≤_, _<_}
 use native.Mathlib.Numerals.{add-one}
 use native.Mathlib.Omega.{arith}
 use lib.Dec.{T, ltb}
@@ -18,7 +18,6 @@ use Rattle.double.specs.Outcome.{Outcome, answers, refuses, tooMany, notFinite}
 use Rattle.sum.specs.Limit.{limit}
 use Rattle.sum.specs.Refused.{checkedFrom, checked, found, faultOf, AllFinite}
 use Rattle.sum.specs.Run.{Accepted}
-use Rattle.sum.specs.declared.fault.Fault.{Fault}
 use Rattle.sum.specs.declared.fault.Fault.the-variants.{None, At}
 
 -- ---- finite: below infinity and above minus infinity

@@ -1,23 +1,22 @@
 -- The loop of a run: from every list on the way the rest of the budget leads where the whole leads from the start (`Going`). In order: its
 -- start, what a step is handed, the three ways a turn ends; a refused run; no two results satisfy the promise. Assumes nothing.
-use mathlib.Core.Path.{_≡_, refl, sym, ap, ap₂, _∙_, subst}
-use mathlib.Core.Bool.{Bool, true, false}
+use mathlib.Core.Path.{_≡_, refl, sym, ap, ap₂, _∙_}
 use mathlib.Core.List.{List, [], _∷_}
 use Prim.Native.Nat.{ℕ, zero, suc, _+_, _-_, _≤_, _<_, zero-le}
 use native.Mathlib.Nat.{sub-zero, le-trans, le-of-eq}
 use native.Mathlib.Omega.{arith}
 use lib.Dec.{T}
-use lib.ListN.{length, getD}
+use lib.ListN.{length}
 use lib.Ieee.{Float, nan, binary64, fits}
 use lib.Ieee.Fits.{nan-fits}
-use Rattle.double.specs.Outcome.{Outcome, answers, refuses, Fixes}
+use Rattle.double.specs.Outcome.{Outcome, answers, Fixes}
 use Rattle.double.specs.declared.refusal.Refusal.{Refusal}
 use Rattle.double.proofs.Laws.Outcome.{refuses-once}
-use Rattle.double.proofs.Laws.Units.{Real}
 use Rattle.sum.specs.Limit.{limit}
-use Rattle.sum.specs.Refused.{AllDoubles, found, faultOf, checked}
+use Rattle.double.specs.Worth.{AllDoubles}
+use Rattle.sum.specs.Refused.{found, faultOf}
 use Rattle.sum.specs.Total.{signNumber}
-use Rattle.sum.specs.Look.{verdictOf, verdictBy, lookOf, countOf, extremeOf}
+use Rattle.sum.specs.Look.{verdictOf, verdictBy, lookOf}
 use Rattle.sum.specs.Step.{stepOf}
 use Rattle.sum.specs.Run.{Accepted, RanSays, RunSays, Reached, reached, ranFrom, runOf, leftOf, said, Told, told, decision, kept}
 use Rattle.sum.specs.Tally.{tallyOf, lookAt, Stepping}
@@ -32,7 +31,7 @@ use Rattle.sum.specs.declared.fault.Fault.the-variants.{None, At}
 use Rattle.sum.specs.declared.look.Tally.{Tally}
 use Rattle.sum.specs.declared.look.Look.{Look}
 use Rattle.sum.proofs.Laws.Refused.{checked-none, checked-at}
-use Rattle.sum.proofs.Laws.Entries.{All, AllReal, all-of, real-of, real-finite}
+use Rattle.sum.proofs.Laws.Entries.{AllReal, all-of, real-of, real-finite}
 use Rattle.sum.proofs.Laws.Step.{step-length, step-real}
 use Rattle.sum.proofs.Laws.Runs.{ran-decided, ran-out, ran-step}
 

@@ -14,12 +14,12 @@ use lib.Ieee.{Float, binary64, prec, neg}
 use Rattle.whole.specs.Sign.{sgn}
 use Rattle.whole.proofs.Laws.Parts.{up, dn, add-parts, up-neg, dn-neg, ≡-parts}
 use Rattle.whole.proofs.Laws.Sign.{sgn-nat-positive, sgn-nat-zero, sgn-nat-negative}
-use Rattle.double.specs.Worth.{worth}
+use Rattle.double.specs.Worth.{worth, plus0}
 use Rattle.double.proofs.Laws.Worth.{worth-up, worth-dn}
 use Rattle.double.proofs.Laws.Signed.{Split, neg-split}
 use Rattle.double.proofs.Laws.Decision.{decision-greater}
 use Rattle.sum.specs.Total.{totalOf, signNumber}
-use Rattle.sum.specs.Look.{plus0, onSide, countOf, extremeOf, indexOf, verdictOf}
+use Rattle.sum.specs.Look.{onSide, countOf, extremeOf, indexOf, verdictOf}
 use Rattle.sum.specs.Run.{ranFrom}
 use Rattle.sum.specs.declared.answer.Sign.{Sign}
 use Rattle.sum.specs.declared.answer.Sign.the-variants.{Minus, Zero, Plus}
@@ -169,12 +169,6 @@ module _ (budget : ℕ) (xs : List Float) (a : AllReal xs) where
         total = step-total ys e (k .real) ∙ k .total;
       })
       budget xs (record { real = a; long = refl; total = refl })
-
-  pub run-real : AllReal (ranFrom budget 0 xs .left)
-  run-real = kept .real
-
-  pub run-length : length (ranFrom budget 0 xs .left) ≡ length xs
-  run-length = kept .long
 
   -- "the exact total is the same after each step": the list that any budget leaves has it
   pub run-total : totalOf (ranFrom budget 0 xs .left) ≡ totalOf xs

@@ -14,13 +14,13 @@ use lib.IntN.{ℤ, _+ℤ_, _-ℤ_, +ℤ-comm}
 use lib.ListN.{length, set, length-set}
 use lib.Pow.{pow-mono}
 use lib.Ieee.{Float, binary64, prec, lt, neg}
-use Rattle.double.specs.Worth.{signBit, mag, worth, doubleOf}
+use Rattle.double.specs.Worth.{signBit, mag, worth, doubleOf, plus0}
 use Rattle.double.proofs.Laws.Units.{Real}
 use Rattle.double.proofs.Laws.Signed.{Split, split-own, neg-own, lt-split}
 use Rattle.double.proofs.Laws.Sum.{add-swap}
 use Rattle.double.proofs.Laws.Step.{Opposed, step, step-shrinks, step-equal, step-worth, step-roundoff}
 use Rattle.double.proofs.Laws.Decision.{decision-close}
-use Rattle.sum.specs.Look.{plus0, countOf, extremeOf, indexOf, verdictOf}
+use Rattle.sum.specs.Look.{countOf, extremeOf, indexOf, verdictOf}
 use Rattle.sum.specs.Step.{rounded, roundoff, put, stepOf}
 use Rattle.sum.specs.declared.answer.Verdict.the-variants.{Undecided}
 use Rattle.sum.proofs.Laws.Entries.{AllReal, all-set}

@@ -9,7 +9,8 @@ use lib.Dec.{T}
 use lib.ListN.{length, set}
 use lib.Ieee.{Float, nan, binary64, lt, neg, add, sub}
 use Rattle.double.proofs.Laws.Step as Exact
-use Rattle.sum.specs.Look.{plus0, extremeOf, indexOf}
+use Rattle.double.specs.Worth.{plus0}
+use Rattle.sum.specs.Look.{extremeOf, indexOf}
 use Rattle.sum.specs.Step.{Opposed, ExactSum, rounded, roundoff, stepOf}
 use Rattle.sum.specs.Tally.{Stepping}
 use Rattle.sum.specs.declared.look.Tally.{Tally}

@@ -1,9 +1,9 @@
 -- The one pass over a list, from its end. In order: a tally's turn, by cases of the entry; a turn keeps the tally of the look's definitions;
 -- counts and indices are within the list. Assumes nothing.
 use mathlib.Core.Path.{_≡_, refl, sym, ap, _∙_, subst}
-use mathlib.Core.Bool.{Bool, true, false, cond, _&&_}
+use mathlib.Core.Bool.{Bool, true, false, cond}
 use mathlib.Core.List.{List, [], _∷_}
-use Prim.Native.Nat.{ℕ, zero, suc, _+_, _-_, _*_, _≤_, _<_, zero-le}
+use Prim.Native.Nat.{ℕ, suc, _+_, _*_, _≤_, _<_, zero-le}
 use native.Mathlib.Numerals.{add-one}
 use native.Mathlib.Nat.{add-comm, add-zero, zero-add, zero-mul, le-refl, le-trans, le-of-eq}
 use native.Mathlib.Omega.{arith}
@@ -12,7 +12,8 @@ use lib.ListN.{length, drop, getD, length-drop}
 use lib.Seq.{drop-cons, drop-length}
 use lib.Ieee.{Float, nan, inf, fin, lt, le, ofBits, up, down}
 use borrow.Author.Tests.{le-ltb}
-use Rattle.sum.specs.Look.{plus0, onSide, asFar, countOf, extremeOf, indexOf}
+use Rattle.double.specs.Worth.{plus0}
+use Rattle.sum.specs.Look.{onSide, asFar, countOf, extremeOf, indexOf}
 use Rattle.sum.specs.Tally.{tallyOf, seenOf}
 use Rattle.sum.specs.declared.look.Tally.{Tally}
 

@@ -11,9 +11,9 @@ use lib.ListN.{length, getD, set}
 use lib.Seq.{lt-length-set, getD-set-other}
 use lib.Ieee.{Float}
 use Rattle.whole.proofs.Laws.Linear.{ints, int-rules}
-use Rattle.double.specs.Worth.{worth}
+use Rattle.double.specs.Worth.{worth, plus0}
 use Rattle.sum.specs.Total.{totalOf}
-use Rattle.sum.specs.Look.{plus0, extremeOf, indexOf, verdictOf}
+use Rattle.sum.specs.Look.{extremeOf, indexOf, verdictOf}
 use Rattle.sum.specs.Step.{put, stepOf}
 use Rattle.sum.specs.declared.answer.Verdict.the-variants.{Undecided}
 use Rattle.sum.proofs.Laws.Entries.{AllReal, sumOf, sum-set}

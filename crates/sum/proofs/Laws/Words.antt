@@ -1,7 +1,7 @@
 -- What words are worth, the lowest first. In order, by any base B: a word that is stored; words behind others; the worth is below the power
 -- that follows the words, and the highest word decides. Then the sign that 33 words of 64 bits hold.
 -- Not here: words that change (`Changed`). Assumes nothing.
-use mathlib.Core.Path.{_≡_, refl, sym, ap, _∙_, subst}
+use mathlib.Core.Path.{_≡_, sym, ap, _∙_, subst}
 use mathlib.Core.Bool.{Bool, true, false, cond}
 use mathlib.Core.List.{List, [], _∷_, _++_}
 use Prim.Native.Nat.{ℕ, zero, suc, _+_, _-_, _*_, _^_, _≤_, _<_, suc-le-suc, zero-le}
@@ -9,7 +9,7 @@ use native.Mathlib.Nat.{pow-zero, pow-succ', le-of-suc-le-suc, not-suc-le-zero, 
 use native.Mathlib.Nat.{lt-of-lt-of-le, le-of-eq, mul-pos, mul-zero, one-le-pow}
 use native.Mathlib.Numerals.{add-one}
 use native.Mathlib.Omega.{arith}
-use lib.Dec.{leb, eqb}
+use lib.Dec.{eqb}
 use lib.ListN.{length, getD, set, take, drop, drop-of-length-le, take-append-drop}
 use lib.Seq.{drop-cons, length-take-le, getD-take}
 use borrow.Author.Tests.{le-leb, lt-leb, eq-eqb, ne-eqb}

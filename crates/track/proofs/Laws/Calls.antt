@@ -9,9 +9,10 @@ use lib.ListN.{length, take, drop}
 use lib.Seq.{take-append-seam}
 use lib.Ieee.{Float}
 use Rattle.double.specs.Outcome.{Outcome, answers}
+use Rattle.double.specs.Worth.{AllDoubles}
 use Rattle.track.specs.Judged.{filled}
 use Rattle.track.specs.Number.{groupsOf, writtenOf, Bytes}
-use Rattle.track.specs.File.{Doubles, limit, largest, mostBytes}
+use Rattle.track.specs.File.{limit, largest, mostBytes}
 use Rattle.track.specs.Write.{writeOf, WriteSays}
 use Rattle.track.specs.Read.{readOf, ReadSays}
 use Rattle.track.specs.declared.answer.Writing.{Writing}
@@ -76,7 +77,7 @@ read {file} {lent} {n} {left} all r =
 
 -- ---- both ways
 -- Reading the bytes that a call wrote answers as many points, and fills in the same ones.
-pub write-then-read : {points : List Float} {lent left : List ℕ} {n : ℕ} {space entries : List Float} {q : Reading} → Doubles points
+pub write-then-read : {points : List Float} {lent left : List ℕ} {n : ℕ} {space entries : List Float} {q : Reading} → AllDoubles points
     → WriteSays points lent (Length n) left → length points ≤ length space → ReadSays (take n left) space q entries
     → (q ≡ Points (length points / 2)) × (entries ≡ points ++ drop (length points) space)
 write-then-read {points} {space = space} {q = q} fit w room r =

@@ -13,10 +13,11 @@ use lib.Seq.{drop-drop, drop-append-seam}
 use lib.Ieee.{Float, binary64, fits, ofBits, toBits}
 use lib.Ieee.Bits.{ofBits-toBits, toBits-ofBits, toBits-lt}
 use Rattle.double.specs.Outcome.{answers, oddLength, tooMany, notAccepted, noRoom, bytesAfter}
-use Rattle.point.specs.Accepted.{acceptedOf}
+use Rattle.point.specs.Accepted.{acceptedOf, acceptingFrom}
+use Rattle.double.specs.Worth.{AllDoubles}
 use Rattle.track.specs.Number.{writtenOf, full, Bytes, beginsWith, placed, numberOf}
 use Rattle.track.specs.Difference.{storedOf, restoredOf}
-use Rattle.track.specs.File.{Doubles, coordinateBytes, fileOf, largest}
+use Rattle.track.specs.File.{coordinateBytes, fileOf, largest}
 use Rattle.track.specs.Write.{acceptedFrom, writeOf}
 use Rattle.track.specs.Coordinate.{judgedOf, coordinateOf}
 use Rattle.track.specs.Read.{coordinatesOf, countedOf, readOf}
@@ -28,7 +29,7 @@ use Rattle.track.proofs.Laws.Taken.{number-read}
 use Rattle.track.proofs.Laws.Difference.{restored-stored, restored-below, stored-below, stored-restored}
 use Rattle.track.proofs.Laws.Coordinate.{accepted-number, judged-accepted, coordinate-judged}
 use Rattle.track.proofs.Laws.File.{file-length}
-use Rattle.track.proofs.Laws.Write.{write-whole}
+use Rattle.track.proofs.Laws.Write.{accepted-cons, write-whole}
 use Rattle.track.proofs.Laws.Read.{counted-read}
 
 -- ---- a written number, at its offset
@@ -60,10 +61,10 @@ coordinate-back file start before x rest hb fit good e =
     ∙ sym (judged-accepted p start next (ap acceptedOf same ∙ good))
     ∙ ap (λ (y : Float). answers (record { value = y; pattern = p; next = next })) same
 
-coordinates-back : (points : List Float) (file : List ℕ) (start before other k : ℕ) → before < 2 ^ 64 → other < 2 ^ 64 → Doubles points
+coordinates-back : (points : List Float) (file : List ℕ) (start before other k : ℕ) → before < 2 ^ 64 → other < 2 ^ 64 → AllDoubles points
     → acceptedFrom k points ≡ answers tt → drop start file ≡ coordinateBytes before other points
     → coordinatesOf file start before other (length points) ≡ answers points
-unfolding coordinatesOf coordinateBytes acceptedFrom
+unfolding coordinatesOf coordinateBytes acceptingFrom
 coordinates-back [] file start before other k hb ho fit good e =
     let none : length file - start ≡ 0 = sym (length-drop start file) ∙ ap length e in
     let over : length file ≤ start = omega arith in
@@ -73,7 +74,7 @@ coordinates-back (x ∷ xs) file start before other k hb ho fit good e =
     let z = storedOf p before in
     let hp : p < 2 ^ 64 = toBits-lt binary64 x (fit 0) in
     let rest = coordinateBytes other p xs in
-    let g = require-answered (acceptedOf x) notAccepted k _ good in
+    let g = require-answered (acceptedOf x) notAccepted k _ (sym (accepted-cons k x xs) ∙ good) in
     let n = number-back file start z rest (stored-below p before hp hb) e in
     also-answers _ (coordinate-back file start before x rest hb (fit 0) (g .0) e)
     ∙ also-answers _ (coordinates-back xs file (start + length (writtenOf z)) other p (suc k) ho hp (λ i. fit (suc i)) (g .1) (n .1))
@@ -112,7 +113,7 @@ record Decoded (file : List ℕ) (start before other n : ℕ) (points : List Flo
 
 coordinates-taken : (n : ℕ) (file : List ℕ) (start before other : ℕ) (points : List Float) → Bytes file → before < 2 ^ 64 → other < 2 ^ 64
     → coordinatesOf file start before other n ≡ answers points → Decoded file start before other n points
-unfolding coordinatesOf coordinateBytes acceptedFrom
+unfolding coordinatesOf coordinateBytes acceptingFrom
 coordinates-taken zero file start before other points all hb ho e =
     let g = require-answered (leb (length file) start) bytesAfter start _ e in
     let none : [] ≡ points = cc (g .1) in
@@ -128,7 +129,7 @@ coordinates-taken (suc n) file start before other points all hb ho e =
     let is : c .value ∷ xs ≡ points = cc (b .2) in
     subst (Decoded file start before other (suc n)) is (record {
       many = ap suc (rest .many);
-      good = λ k. require-holds notAccepted k _ (one .good) ∙ rest .good (suc k);
+      good = λ k. accepted-cons k (c .value) xs ∙ require-holds notAccepted k _ (one .good) ∙ rest .good (suc k);
       same = one .same ∙ ap (λ (z : List ℕ). writtenOf (storedOf (c .pattern) before) ++ z) (rest .same)
           ∙ sym (ap (λ (p : ℕ). writtenOf (storedOf p before) ++ coordinateBytes other p xs) (one .bits));
     })
@@ -163,7 +164,7 @@ module _ (most : ℕ) where
       omega (arith, file-length most points (l .few), ap length (l .same))
 
   -- Reading what was written gives the same points: the same doubles, each known by its pattern (-0 and +0 are two), and as many.
-  pub read-write : most < 2 ^ 64 → (points : List Float) (room : ℕ) (file : List ℕ) (space : ℕ) → Doubles points
+  pub read-write : most < 2 ^ 64 → (points : List Float) (room : ℕ) (file : List ℕ) (space : ℕ) → AllDoubles points
       → writeOf most points room ≡ answers file → length points ≤ space → readOf most file space ≡ answers points
   unfolding readOf fileOf
   read-write hm points room file space fit e h =

@@ -2,7 +2,7 @@
 -- satisfy its promise. Not here: the bytes themselves (Laws.File). Assumes nothing.
 use Prim.Native.Nat.{ℕ, zero, suc, _+_, _*_, _%_, _≤_, _<_}
 use mathlib.Core.Path.{_≡_, refl, sym, ap, ap₂, _∙_}
-use mathlib.Core.Bool.{true, false}
+use mathlib.Core.Bool.{Bool, true, false, cond}
 use mathlib.Core.List.{List, [], _∷_, _++_}
 use native.Mathlib.Numerals.{add-one}
 use native.Mathlib.Omega.{arith}
@@ -12,7 +12,7 @@ use lib.Seq.{drop-cons, sets, sets-eq}
 use lib.Ieee.{Float, nan, binary64, toBits}
 use Rattle.double.specs.Outcome.{Outcome, answers, refuses, Fixes, oddLength, tooMany, notAccepted, noRoom}
 use Rattle.double.proofs.Laws.Outcome.{refuses-once}
-use Rattle.point.specs.Accepted.{acceptedOf}
+use Rattle.point.specs.Accepted.{acceptedOf, acceptingFrom}
 use Rattle.track.specs.Judged.{require, also, filled}
 use Rattle.track.specs.Number.{writtenOf}
 use Rattle.track.specs.Difference.{storedOf}
@@ -25,11 +25,19 @@ use Rattle.track.proofs.Laws.Written.{written-length}
 use Rattle.track.proofs.Laws.File.{bytes-more, bytes-end}
 
 -- ---- accepted coordinates
+pub accepted-cons : (k : ℕ) (x : Float) (xs : List Float)
+    → acceptedFrom k (x ∷ xs) ≡ also (require (acceptedOf x) notAccepted k) (λ _. acceptedFrom (suc k) xs)
+unfolding acceptingFrom
+accepted-cons k x xs = go (acceptedOf x)
+  where
+    go : (b : Bool) → cond b (acceptedFrom (k + 1) xs) (refuses notAccepted k) ≡ also (require b notAccepted k) (λ _. acceptedFrom (suc k) xs)
+    go true = ap (λ (j : ℕ). acceptedFrom j xs) (add-one k)
+    go false = refl
+
 module _ (points : List Float) (i : ℕ) (h : i < length points) where
   accepted-turn : acceptedFrom i (drop i points)
       ≡ also (require (acceptedOf (getD points i nan)) notAccepted i) (λ _. acceptedFrom (suc i) (drop (suc i) points))
-  unfolding acceptedFrom
-  accepted-turn = rw (drop-cons points i nan)
+  accepted-turn = ap (acceptedFrom i) (drop-cons points i nan h) ∙ accepted-cons i (getD points i nan) (drop (suc i) points)
 
   accepted-more : acceptedOf (getD points i nan) ≡ true → acceptedFrom i (drop i points) ≡ acceptedFrom (i + 1) (drop (i + 1) points)
   accepted-more e = rw (add-one i) (accepted-turn ∙ require-holds notAccepted i _ e)
@@ -39,10 +47,11 @@ module _ (points : List Float) (i : ℕ) (h : i < length points) where
 
 -- where none is refused, each is accepted
 pub accepted-all : (k : ℕ) (points : List Float) → acceptedFrom k points ≡ answers tt → AllAccepted points
-unfolding acceptedFrom
+unfolding acceptingFrom
 accepted-all k [] e i h = absurd (omega arith)
-accepted-all k (x ∷ xs) e zero h = require-answered (acceptedOf x) notAccepted k _ e .0
-accepted-all k (x ∷ xs) e (suc i) h = accepted-all (suc k) xs (require-answered (acceptedOf x) notAccepted k _ e .1) i (omega arith)
+accepted-all k (x ∷ xs) e zero h = require-answered (acceptedOf x) notAccepted k _ (sym (accepted-cons k x xs) ∙ e) .0
+accepted-all k (x ∷ xs) e (suc i) h =
+    accepted-all (suc k) xs (require-answered (acceptedOf x) notAccepted k _ (sym (accepted-cons k x xs) ∙ e) .1) i (omega arith)
 
 -- ---- the length of their bytes, i of them measured
 pub record Measuring (points : List Float) (len before other i : ℕ) : Type 0 where
@@ -78,7 +87,7 @@ module _ (points : List Float) (len before other i : ℕ) (m : Measuring points 
     measuring-refused a = sym (also-refuses _ (m .rest ∙ accepted-stops points i h a))
 
   pub measuring-done : length points ≤ i → answers len ≡ measureOf points
-  unfolding measureOf acceptedFrom
+  unfolding measureOf acceptingFrom
   measuring-done h =
       let none : acceptedFrom 0 points ≡ answers tt = m .rest ∙ ap (acceptedFrom i) (drop-of-length-le points h) in
       let l : len ≡ length (coordinateBytes 0 0 points) = omega (arith, m .all, ap length (bytes-end points before other i nan h)) in

@@ -1,12 +1,12 @@
 -- Laws of `sgn`.
 --
--- In order: its three values, and when it has each; of a negation, of a product, of a positive multiple; of a difference, where it says how
+-- In order: when it has each of its three values; of a negation, of a product, of a positive multiple; of a difference, where it says how
 -- two numbers compare, whole ones and natural ones.
 -- Not here: what the sign of a product says of the order (`Order`).
 -- Assumes nothing.
 use mathlib.Core.Path.{_≡_, refl, sym, _∙_, ap}
 use mathlib.Core.List.{[], _∷_}
-use mathlib.Core.Logic.{_⊎_, inl, inr, _↔_, Iff·trans}
+use mathlib.Core.Logic.{_↔_, Iff·trans}
 use Prim.Native.Nat.{ℕ, zero, suc, _+_, _*_, _<_}
 use native.Mathlib.Omega.{arith}
 use lib.IntN.{ℤ, pos, negsuc, negℤ, _-ℤ_, _*ℤ_, zero-*ℤ, *ℤ-zero}
@@ -17,12 +17,6 @@ use Rattle.whole.proofs.Laws.Parts.{up, dn, pos-<, pos-≡}
 use Rattle.whole.proofs.Laws.Linear.{ints, int-rules}
 
 -- ---- the three values
-
-pub sgn-cases : (z : ℤ) → (sgn z ≡ pos 1) ⊎ (sgn z ≡ pos 0) ⊎ (sgn z ≡ negsuc 0)
-unfolding sgn
-sgn-cases (pos zero) = inr (inl refl)
-sgn-cases (pos (suc n)) = inl refl
-sgn-cases (negsuc n) = inr (inr refl)
 
 pub sgn-positive : (z : ℤ) → (sgn z ≡ pos 1) ↔ (pos 0 <ᶻ z)
 unfolding sgn up

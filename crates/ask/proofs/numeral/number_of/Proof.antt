@@ -1,7 +1,7 @@
 -- `ask::numeral::number_of` meets its contract. The loop's invariant, `Reading`: the number so far and the digits that are left make the
 -- whole. Assumes nothing.
 use Prim.Native.Nat.{_-_}
-use mathlib.Core.Path.{refl, sym, _∙_}
+use mathlib.Core.Path.{sym, _∙_}
 use native.Mathlib.Omega.{arith}
 use lib.ListN.{length}
 use borrow.Author.Needs.{needs}

@@ -4,7 +4,6 @@ use mathlib.Core.Path.{_≡_, sym, ap, ap₂, subst, _∙_}
 use native.Mathlib.Omega.{arith}
 use lib.ListN.{drop}
 use borrow.Author.Needs.{needs}
-use Rattle.point.specs.declared.Point.{Point}
 use Rattle.geometry.specs.Side.{Accepted}
 use Rattle.geometry.specs.Zone.{edge, edgesOf, cornersOf, cornerAt, nextOf, crossingOf, withEdge, countsOf, isUp, isDown}
 use Rattle.geometry.specs.declared.zones.Counts.{Counts}
@@ -13,8 +12,7 @@ use Rattle.geometry.proofs.zones.counted.Statement.{statement}
 use Rattle.geometry.proofs.zones.counted.Tie as tie
 use Rattle.geometry.proofs.zones.counted.Reads as reads
 use Rattle.geometry.proofs.zones.counted.Lts as lts
-use Rattle.geometry.proofs.edges.crosses.Reads as crosses-reads
-use Rattle.geometry.proofs.zones.corner_at.Reads as corner-at-reads
+use Rattle.geometry.proofs.zones.crosses_at.Reads as crosses-at-reads
 use Rattle.geometry.proofs.zones.next_of.Reads as next-of-reads
 use Rattle.geometry.proofs.zones.with_edge.Reads as with-edge-reads
 
@@ -30,34 +28,28 @@ loop-holds c = (search needs, counts-end _ _ _ (c .before .pre .0 .corners))
 sub-k : tie.Need-sub-k Inv-loop μ-loop
 sub-k c = search needs
 
-corner-at-requires : tie.Need-corner-at-requires Inv-loop μ-loop
-corner-at-requires c κs = search needs
-
 next-of-requires : tie.Need-next-of-requires Inv-loop μ-loop
 next-of-requires c κs = search needs
 
-corner-at-requires-2 : tie.Need-corner-at-requires-2 Inv-loop μ-loop
-corner-at-requires-2 c κs =
-    let turn = c .before .before .before in
-    let z = turn .before .before .pre .0 in
-    let i = next-inside (turn .loop .k - 1) (turn .before .before .args .n) (omega arith) in
-    (omega (arith, c .next-of .ensures, i), omega (arith, c .next-of .ensures, i))
-
-crosses-requires : tie.Need-crosses-requires Inv-loop μ-loop
-crosses-requires c κs =
-    let turn = c .before .before .before .before in
+crosses-at-requires : tie.Need-crosses-at-requires Inv-loop μ-loop
+crosses-at-requires c κs =
+    let turn = c .before .before in
     let s = turn .before .before in
     let z = s .pre .0 in
-    let k = turn .loop .k - 1 in (
-      subst Accepted (sym (c .before .before .corner-at .ensures)) (z .accepted k (omega arith)),
-      subst Accepted (sym (c .corner-at2 .ensures ∙ ap (cornerAt (s .args .corners .now)) (c .before .next-of .ensures)))
-          (z .accepted (nextOf (s .args .n) k) (next-inside k (s .args .n) (omega arith))),
-      s .pre .1,
+    let k = turn .loop .k - 1 in
+    let i = next-inside k (s .args .n) (omega arith) in
+    let j = c .next-of .ensures in (
+      (omega arith, omega arith, omega (arith, j, i), omega (arith, j, i)),
+      (
+        z .accepted k (omega arith),
+        subst (λ (j : ℕ). Accepted (cornerAt (s .args .corners .now) j)) (sym j) (z .accepted (nextOf (s .args .n) k) i),
+        s .pre .1,
+      ),
     )
 
 with-edge-requires : tie.Need-with-edge-requires Inv-loop μ-loop
 with-edge-requires c κs =
-    let turn = c .before .before .before .before .before in
+    let turn = c .before .before .before in
     let s = turn .before .before in
     let z = s .pre .0 in
     let few = count-few (s .args .corners .now) (s .args .n) (s .args .p) (z .corners) in (
@@ -70,16 +62,15 @@ loop-less c = search needs
 
 loop-again : tie.Need-loop-again Inv-loop μ-loop
 loop-again c =
-    let turn = c .before .before .before .before .before .before in
+    let turn = c .before .before .before .before in
     let s = turn .before .before in
     let xs = s .args .corners .now in
-    let k = turn .loop .k - 1 in
-    let b = c .before .before .corner-at2 .ensures ∙ ap (cornerAt xs) (c .before .before .before .next-of .ensures) in (
+    let k = turn .loop .k - 1 in (
       search needs,
       c .with-edge .ensures
           ∙ ap₂ withEdge (turn .loop .inv .1)
-          (c .before .crosses .ensures
-          ∙ ap₂ (λ (a b : Point). crossingOf (edge a b) (s .args .p)) (c .before .before .before .before .corner-at .ensures) b)
+          (c .before .crosses-at .ensures
+          ∙ ap (λ (j : ℕ). crossingOf (edge (cornerAt xs k) (cornerAt xs j)) (s .args .p)) (c .before .before .next-of .ensures))
           ∙ counts-before xs (s .args .n) (s .args .p) (s .pre .0 .corners) k (turn .loop .k) (omega arith) (omega arith),
     )
 
@@ -97,10 +88,8 @@ counted-spec =
     μ-loop
     loop-holds
     sub-k
-    corner-at-requires
     next-of-requires
-    corner-at-requires-2
-    crosses-requires
+    crosses-at-requires
     with-edge-requires
     loop-less
     loop-again

@@ -1,13 +1,11 @@
 -- `zones::place` meets its contract. The loop's invariant: the walk from edge k on answers what the whole walk does. Assumes nothing.
-use Prim.Native.Nat.{_-_, _≤_, _<_}
-use mathlib.Core.Path.{_≡_, sym, ap, ap₂, subst, _∙_}
+use Prim.Native.Nat.{ℕ, _-_, _≤_, _<_}
+use mathlib.Core.Path.{_≡_, sym, ap, subst, _∙_}
 use mathlib.Core.Logic.{inl, inr}
 use native.Mathlib.Omega.{arith}
 use borrow.Author.Needs.{needs}
-use Rattle.point.specs.declared.Point.{Point}
 use Rattle.geometry.specs.Side.{Accepted}
-use Rattle.geometry.specs.Zone.{edge, edgesOf, cornersOf, cornerAt, nextOf, onEdge, placeOf, isUp, isDown}
-use Rattle.geometry.specs.declared.answer.Place.the-variants.{Border}
+use Rattle.geometry.specs.Zone.{edge, edgesOf, cornersOf, cornerAt, nextOf, onEdge, border, placeOf, placeSaid, isUp, isDown}
 use Rattle.geometry.specs.declared.zones.Counts.{Counts}
 use Rattle.geometry.proofs.Laws.Zone.{next-inside, count-few, offBorder, walkFrom, walk-start, walk-here, walk-later, walk-end}
 use Rattle.geometry.proofs.Laws.Zone.{off-inside, off-outside}
@@ -15,10 +13,9 @@ use Rattle.geometry.proofs.zones.place.Statement.{statement}
 use Rattle.geometry.proofs.zones.place.Tie as tie
 use Rattle.geometry.proofs.zones.place.Reads as reads
 use Rattle.geometry.proofs.zones.place.Lts as lts
-use Rattle.geometry.proofs.edges.on_edge.Reads as on-edge-reads
-use Rattle.geometry.proofs.zones.corner_at.Reads as corner-at-reads
 use Rattle.geometry.proofs.zones.counted.Reads as counted-reads
 use Rattle.geometry.proofs.zones.next_of.Reads as next-of-reads
+use Rattle.geometry.proofs.zones.on_edge_at.Reads as on-edge-at-reads
 
 abbrev Inv-loop : tie.InvT-loop
 Inv-loop corners n p k₀ k = (k ≤ n) × (walkFrom corners p k ≡ placeOf (edgesOf (cornersOf corners)) p)
@@ -29,29 +26,23 @@ abbrev μ-loop : tie.MeasureT-loop
 loop-holds : tie.Need-loop-holds Inv-loop μ-loop
 loop-holds c = (search needs, walk-start _ _)
 
-corner-at-requires : tie.Need-corner-at-requires Inv-loop μ-loop
-corner-at-requires c κs = search needs
-
 next-of-requires : tie.Need-next-of-requires Inv-loop μ-loop
 next-of-requires c κs = search needs
 
-corner-at-requires-2 : tie.Need-corner-at-requires-2 Inv-loop μ-loop
-corner-at-requires-2 c κs =
-    let turn = c .before .before .before in
-    let z = turn .before .before .pre .0 in
-    let i = next-inside (turn .loop .k) (turn .before .before .args .n) (omega arith) in
-    (omega (arith, c .next-of .ensures, i), omega (arith, c .next-of .ensures, i))
-
-on-edge-requires : tie.Need-on-edge-requires Inv-loop μ-loop
-on-edge-requires c κs =
-    let turn = c .before .before .before .before in
+on-edge-at-requires : tie.Need-on-edge-at-requires Inv-loop μ-loop
+on-edge-at-requires c κs =
+    let turn = c .before .before in
     let s = turn .before .before in
     let z = s .pre .0 in
-    let k = turn .loop .k in (
-      subst Accepted (sym (c .before .before .corner-at .ensures)) (z .accepted k (omega arith)),
-      subst Accepted (sym (c .corner-at2 .ensures ∙ ap (cornerAt (s .args .corners .now)) (c .before .next-of .ensures)))
-          (z .accepted (nextOf (s .args .n) k) (next-inside k (s .args .n) (omega arith))),
-      s .pre .1,
+    let k = turn .loop .k in
+    let i = next-inside k (s .args .n) (omega arith) in
+    let j = c .next-of .ensures in (
+      (omega arith, omega arith, omega (arith, j, i), omega (arith, j, i)),
+      (
+        z .accepted k (omega arith),
+        subst (λ (j : ℕ). Accepted (cornerAt (s .args .corners .now) j)) (sym j) (z .accepted (nextOf (s .args .n) k) i),
+        s .pre .1,
+      ),
     )
 
 add-k : tie.Need-add-k Inv-loop μ-loop
@@ -62,31 +53,31 @@ loop-less c = search needs
 
 loop-again : tie.Need-loop-again Inv-loop μ-loop
 loop-again c =
-    let turn = c .before .before .before .before .before .before in
+    let turn = c .before .before .before .before in
     let s = turn .before .before in
     let xs = s .args .corners .now in
-    let b = c .before .before .corner-at2 .ensures ∙ ap (cornerAt xs) (c .before .before .before .next-of .ensures) in
-    let e = ap₂ (λ (a b : Point). onEdge (edge a b) (s .args .p)) (c .before .before .before .before .corner-at .ensures) b in
-    let off = sym e ∙ sym (c .before .on-edge .ensures) ∙ c .if2 .left in (
+    let k = turn .loop .k in
+    let e = ap (λ (j : ℕ). onEdge (edge (cornerAt xs k) (cornerAt xs j)) (s .args .p)) (c .before .before .next-of .ensures) in
+    let off = sym e ∙ sym (c .before .on-edge-at .ensures) ∙ c .if2 .left in (
       search needs,
-      sym (walk-later xs (s .args .n) (s .args .p) (s .pre .0 .corners) (turn .loop .k) (omega arith) off) ∙ turn .loop .inv .1,
+      sym (walk-later xs (s .args .n) (s .args .p) (s .pre .0 .corners) k (omega arith) off) ∙ turn .loop .inv .1,
     )
 
 -- the walk has ended on an edge
 found : (c : tie.Joined1 Inv-loop μ-loop)
     → (let s = c .before .before .before in
-    c .if1 .edge < s .args .n → Border (c .if1 .edge) ≡ placeOf (edgesOf (cornersOf (s .args .corners .now))) (s .args .p))
+    c .if1 .edge < s .args .n → border (c .if1 .edge) ≡ placeOf (edgesOf (cornersOf (s .args .corners .now))) (s .args .p))
 found c h =
     let s = c .before .before .before in
     let xs = s .args .corners .now in
     elim (c .if1 .came) [
       | inl t ↦ let z : ⊥ = omega (arith, t .1) in absurd z
       | inr t ↦
-          let b = t .3 .ensures ∙ ap (cornerAt xs) (t .2 .ensures) in
-          ap Border (t .6)
-          ∙ sym (walk-here xs (s .args .n) (s .args .p) (s .pre .0 .corners) (c .before .loop .k) (omega (arith, t .0))
-          (ap₂ (λ (a b : Point). onEdge (edge a b) (s .args .p)) (sym (t .1 .ensures)) (sym b)
-          ∙ sym (t .4 .ensures) ∙ t .5 .taken))
+          let k = c .before .loop .k in
+          ap border (t .4)
+          ∙ sym (walk-here xs (s .args .n) (s .args .p) (s .pre .0 .corners) k (omega (arith, t .0))
+          (ap (λ (j : ℕ). onEdge (edge (cornerAt xs k) (cornerAt xs j)) (s .args .p)) (sym (t .1 .ensures))
+          ∙ sym (t .2 .ensures) ∙ t .3 .taken))
           ∙ c .before .loop .inv .1
     ]
 
@@ -100,10 +91,11 @@ missed c h =
       | inl t ↦
           sym (walk-end (s .args .corners .now) (s .args .n) (s .args .p) (s .pre .0 .corners) (c .before .loop .k) (omega (arith, t .0)))
           ∙ c .before .loop .inv .1
-      | inr t ↦ let z : ⊥ = omega (arith, t .0, t .6) in absurd z
+      | inr t ↦ let z : ⊥ = omega (arith, t .0, t .4) in absurd z
     ]
 
 returns : tie.Need-returns Inv-loop μ-loop
+unfolding placeSaid
 returns c = found (c .before) (c .if3 .taken)
 
 counted-requires : tie.Need-counted-requires Inv-loop μ-loop
@@ -118,11 +110,13 @@ add-if4 c =
     omega (arith, few isUp 0, few isDown 0, ap (λ (t : Counts). t .ups) e, ap (λ (t : Counts). t .downs) e, z .few)
 
 returns-2 : tie.Need-returns-2 Inv-loop μ-loop
+unfolding placeSaid
 returns-2 c =
     let n = c .before .before in
     off-inside _ _ _ (n .counted .ensures) (c .if4 .taken) ∙ missed (n .before .before) (n .before .if3 .left)
 
 returns-3 : tie.Need-returns-3 Inv-loop μ-loop
+unfolding placeSaid
 returns-3 c =
     let n = c .before .before in
     off-outside _ _ _ (n .counted .ensures) (c .if4 .left) ∙ missed (n .before .before) (n .before .if3 .left)
@@ -134,10 +128,8 @@ place-spec =
     Inv-loop
     μ-loop
     loop-holds
-    corner-at-requires
     next-of-requires
-    corner-at-requires-2
-    on-edge-requires
+    on-edge-at-requires
     add-k
     loop-less
     loop-again

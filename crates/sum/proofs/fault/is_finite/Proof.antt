@@ -1,6 +1,6 @@
 -- `sum::fault::is_finite` meets its contract: 1 / 0 is infinity, and the two comparisons with it tell. Assumes nothing.
 use mathlib.Core.Path.{_≡_, refl}
-use mathlib.Core.Bool.{true, false}
+use mathlib.Core.Bool.{false}
 use lib.Ieee.{binary64, inf, neg, div, ofBits}
 use Rattle.sum.proofs.Laws.Refused.{finite-below, finite-not-below}
 use Rattle.sum.proofs.fault.is_finite.Statement.{statement}

@@ -1,7 +1,6 @@
 -- `sum::stepping::exact_sum` meets its contract: the law of the exact step. Assumes nothing.
 use mathlib.Core.Path.{sym, subst}
 use lib.Dec.{T}
-use lib.Ieee.{binary64, fits}
 use Rattle.sum.proofs.Laws.Stepping.{exact-sum}
 use Rattle.sum.proofs.stepping.exact_sum.Statement.{statement}
 use Rattle.sum.proofs.stepping.exact_sum.Tie as tie

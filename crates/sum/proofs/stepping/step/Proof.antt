@@ -1,5 +1,4 @@
 -- `sum::stepping::step` meets its contract: whichever extreme is larger, the two writes are the rule's step. Assumes nothing.
-use mathlib.Core.Path.{sym, ap, _∙_}
 use native.Mathlib.Omega.{arith}
 use lib.ListN.{length-set}
 use borrow.Author.Needs.{needs}

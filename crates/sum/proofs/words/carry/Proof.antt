@@ -1,7 +1,7 @@
 -- `sum::words::carry` meets its contract. The loop's invariant: 1 is still to be added at word i, and that is 1 at the lowest.
 -- Assumes nothing.
-use Prim.Native.Nat.{ℕ, _+_, _-_, _^_, _≤_}
-use mathlib.Core.Path.{_≡_, refl, _∙_}
+use Prim.Native.Nat.{_+_, _-_, _^_, _≤_}
+use mathlib.Core.Path.{_≡_, _∙_}
 use lib.ListN.{length, getD, length-set}
 use native.Mathlib.Omega.{arith}
 use borrow.Author.Needs.{needs}

@@ -1,9 +1,9 @@
 -- `sum::words::sign_of` meets its contract.
 use Rattle.sum.proofs.Laws.Words.{Below, value-next, held-below, held-minus, held-plus, held-zero}
-use mathlib.Core.Path.{sym, ap, _∙_}
-use Prim.Native.Nat.{_+_, _-_, _*_, _^_, _≤_}
-use mathlib.Core.Path.{_≡_, refl}
-use lib.ListN.{length, drop}
+use mathlib.Core.Path.{_∙_}
+use Prim.Native.Nat.{_-_, _*_, _^_, _≤_}
+use mathlib.Core.Path.{_≡_}
+use lib.ListN.{drop}
 use native.Mathlib.Omega.{arith}
 use borrow.Author.Needs.{needs}
 use Rattle.sum.specs.Words.{base, count, valueOf}

@@ -1,7 +1,6 @@
 -- `sum::words::subtract` meets its contract: what goes over the two words is 0 or 1, and a 1 is taken away behind them. Assumes nothing.
-use Prim.Native.Nat.{_+_, _≤_, _<_}
 use mathlib.Core.Path.{_≡_, _∙_}
-use lib.ListN.{length, length-set}
+use lib.ListN.{length-set}
 use native.Mathlib.Omega.{arith}
 use Rattle.sum.specs.Words.{base}
 use Rattle.sum.proofs.Laws.Changed.{taken-ends, taken-goes}

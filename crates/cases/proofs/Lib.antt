@@ -1,0 +1,2 @@
+-- The hand-written modules of this crate.
+mod Laws

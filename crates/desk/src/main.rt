@@ -1,0 +1,4 @@
+// The desk program: reads zone.trk and release.trk of the working folder, and prints the place of each release.
+fn main() {
+    serve::desk();
+}

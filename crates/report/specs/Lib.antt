@@ -1,0 +1,3 @@
+-- What a reader must believe of the desk's answers. In order: the zone, judged from the bytes of its file; the report of the releases.
+pub mod Zone
+pub mod Report
