@@ -13,6 +13,8 @@ pub mod Worth
 pub mod Sum
 -- sums and differences by the part of either sign, for a proof that serves both
 pub mod Signed
+-- a whole number as a difference of two naturals
+pub mod By
 -- products that are whole numbers of units
 pub mod Multiply
 -- which zero a sum of 0 is
@@ -51,6 +53,8 @@ pub mod Threshold
 pub mod Orientation
 -- a refusal is known by its number and its place
 pub mod Outcome
+-- the search for the first entry that fails a test
+pub mod Search
 -- the double of a bit pattern
 pub mod Pattern
 -- a double taken apart

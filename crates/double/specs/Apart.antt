@@ -1,5 +1,6 @@
 -- Taking a double apart, by 01's section Numbers.
 use Prim.Native.Nat.{ℕ, _-_, _*_, _/_, _^_}
+use mathlib.Core.Path.{_≡_}
 use lib.Ieee.{Float, nan, inf, fin, binary64, prec, size}
 use Rattle.double.specs.Worth.{mag, ofUnits}
 use Rattle.double.specs.Outcome.{Outcome, answers, refuses, notFinite}
@@ -31,6 +32,10 @@ apartOf (fin s m e) = answers (record {
   significand = significandOf (mag binary64 (fin s m e));
   exponent = exponentOf (mag binary64 (fin s m e));
 })
+
+-- the promise: the parts, or the refusal
+abbrev pub TakenSays : Float → Taken → Type 0
+TakenSays x r = said r ≡ apartOf x
 
 -- the double that has these parts
 unfoldable pub together : Parts → Float

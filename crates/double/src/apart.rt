@@ -1,6 +1,5 @@
 // Taking a double apart, by the three fields of its bit pattern.
-ghost use mathlib.Core.Path.{_≡_};
-ghost use Rattle.double.specs.Apart.{said, apartOf};
+ghost use Rattle.double.specs.Apart.{TakenSays};
 use crate::answer::Parts;
 use crate::answer::Taken;
 use crate::refusal::NOT_FINITE;
@@ -15,7 +14,7 @@ const ALL_ONES: u64 = 2047;
 
 // The parts of x, or refusal 2 where x is infinite or not a number.
 pub fn take_apart(x: f64) -> Taken
-    ensures { λ r. ⌜ said r ≡ apartOf x ⌝ }
+    ensures { λ r. ⌜ TakenSays x r ⌝ }
 {
     if x != x {
         return Taken::Refused(Refusal {

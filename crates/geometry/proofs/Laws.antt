@@ -17,5 +17,7 @@ pub mod Zone
 pub mod Outcomes
 -- the points of a flat list
 pub mod Corners
--- a zone that is not refused
+-- a zone that is answered
 pub mod Answered
+-- the demands, of whatever keeps the promises of `side` and `zone`: what callers cite
+pub mod Calls

@@ -2,15 +2,16 @@
 use Prim.Native.Nat.{ℕ}
 use mathlib.Core.Path.{_≡_}
 use mathlib.Core.Bool.{true}
-use mathlib.Core.List.{[], _∷_}
+use mathlib.Core.List.{List, [], _∷_}
+use lib.Dec.{T}
 use lib.IntN.{ℤ, pos}
+use lib.Ieee.{Float, binary64, fits}
 use Rattle.double.specs.Outcome.{Outcome, answers, refuses}
+use Rattle.double.specs.Search.{passingFrom}
 use Rattle.point.specs.declared.Point.{Point}
-use Rattle.point.specs.Accepted.{acceptedOf, acceptingFrom}
+use Rattle.point.specs.Accepted.{acceptedWithin, acceptedOf, acceptingFrom}
 use Rattle.sum.specs.Total.{signNumber}
-use Rattle.sum.specs.Run.{ranFrom, Reached}
-use Rattle.sum.specs.declared.answer.Verdict.{Verdict}
-use Rattle.sum.specs.declared.answer.Verdict.the-variants.{Decided, Undecided}
+use Rattle.sum.specs.Run.{Decision, sign, undecided, Told, runOf, mostBudget}
 use Rattle.geometry.specs.Filter.{filterOf}
 use Rattle.geometry.specs.Product.{summandsOf}
 use Rattle.geometry.specs.declared.answer.Turn.{Turn}
@@ -28,21 +29,20 @@ pub record Turned : Type 0 where
 abbrev pub turned : ℤ → ℕ → ℕ → Turned
 turned s n k = record { sign = s; stage = n; steps = k }
 
--- the third demand's "For a side question the count is never above 480": a budget that always decides (Laws.Exact)
-abbrev pub mostSteps : ℕ
-mostSteps = 480
+-- "the sum rule decides": the sign of a run that is over
+abbrev pub signDecided : Decision → ℤ
+signDecided (sign z) = z
+signDecided undecided = pos 0
 
--- "the sum rule decides"
-abbrev pub verdictNumber : Verdict → ℤ
-verdictNumber (Decided s) = signNumber s
-verdictNumber Undecided = pos 0
+-- stage 3, by what a run answers; that it never refuses and always decides is a law (Laws.Exact)
+abbrev pub byRun : Outcome Told → Turned
+byRun (answers t) = turned (signDecided (t .decided)) 3 (t .steps)
+byRun (refuses number place) = turned (pos 0) 3 0
 
-abbrev pub byRun : Reached → Turned
-byRun r = turned (verdictNumber (r .verdict)) 3 (r .steps)
-
+-- the run goes to its end: it has the greatest budget
 unfoldable pub exactOf : Point → Point → Point → Turned
-unfolding summandsOf ranFrom
-exactOf p q r = byRun (ranFrom mostSteps 0 (summandsOf p q r))
+unfolding summandsOf runOf
+exactOf p q r = byRun (runOf (summandsOf p q r) mostBudget)
 
 abbrev pub byStage : Early → Turned → Turned
 byStage Level exact = turned (pos 0) 1 0
@@ -63,12 +63,31 @@ unfoldable pub said : Side → Outcome Turned
 said (Of t) = answers (turnSaid t)
 said (Refused r) = refuses (r .number) (r .place)
 
+-- the six coordinates in the order of their places
+abbrev pub sixOf : Point → Point → Point → List Float
+sixOf p q r = p .x ∷ p .y ∷ q .x ∷ q .y ∷ r .x ∷ r .y ∷ []
+
 -- "Side: 3 only, place 0 to 5 for px, py, qx, qy, rx, ry"
 unfoldable pub sideOf : Point → Point → Point → Outcome Turned
-unfolding acceptingFrom turnOf
-sideOf p q r = acceptingFrom 0 (p .x ∷ p .y ∷ q .x ∷ q .y ∷ r .x ∷ r .y ∷ []) (turnOf p q r)
+unfolding passingFrom acceptedWithin turnOf
+sideOf p q r = acceptingFrom 0 (sixOf p q r) (turnOf p q r)
+
+-- the promise of `side`
+pub record SideSays (p q r : Point) (s : Side) : Type 0 where
+  pub answer : said s ≡ sideOf p q r
+
+-- the third demand's "For a side question the count is never above 480": a law (Laws.Calls)
+abbrev pub mostSteps : ℕ
+mostSteps = 480
+
+-- ---- points
 
 -- both coordinates of a point are accepted
 pub record Accepted (p : Point) : Type 0 where
   pub x : acceptedOf (p .x) ≡ true
   pub y : acceptedOf (p .y) ≡ true
+
+-- what a point that is handed in is made of: the format holds both coordinates
+pub record OfDoubles (p : Point) : Type 0 where
+  pub x : T (fits binary64 (p .x))
+  pub y : T (fits binary64 (p .y))

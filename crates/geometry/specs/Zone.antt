@@ -8,15 +8,13 @@ use lib.IntN.{ℤ, pos, negsuc}
 use lib.ListN.{length, getD}
 use lib.Ieee.{Float, nan, lt, le}
 use Rattle.double.specs.Outcome.{Outcome, answers, refuses, tooMany, tooFewCorners, oddLength}
+use Rattle.double.specs.Search.{passingFrom}
 use Rattle.point.specs.declared.Point.{Point}
-use Rattle.point.specs.Accepted.{acceptingFrom}
+use Rattle.point.specs.Accepted.{acceptedWithin, acceptingFrom}
 use Rattle.geometry.specs.Determinant.{determinant}
 use Rattle.geometry.specs.Side.{Accepted}
 use Rattle.geometry.specs.declared.edges.Crossing.{Crossing}
 use Rattle.geometry.specs.declared.edges.Crossing.the-variants.{None, Up, Down}
-use Rattle.geometry.specs.declared.zones.Counts.{Counts}
-use Rattle.geometry.specs.declared.zones.Fault.{Fault}
-use Rattle.geometry.specs.declared.zones.Fault.the-variants.{None as FaultNone, At as FaultAt}
 use Rattle.geometry.specs.declared.answer.Place.{Place}
 use Rattle.geometry.specs.declared.answer.Place.the-variants.{Outside, Border, Inside}
 use Rattle.geometry.specs.declared.answer.Zone.{Zone}
@@ -91,11 +89,7 @@ isUp e p = (le (e .from .y) (p .y) && lt (p .y) (e .to .y)) && isPositive (sideO
 unfoldable pub isDown : Edge → Point → Bool
 isDown e p = (le (e .to .y) (p .y) && lt (p .y) (e .from .y)) && isNegative (sideOfEdge e p)
 
--- one of the two ranges of y
-abbrev pub straddling : Float → Float → Float → Bool
-straddling a b y = (le a y && lt y b) || (le b y && lt y a)
-
--- how an edge counts, for the function that tells it
+-- how an edge counts
 abbrev pub crossingOf : Edge → Point → Crossing
 crossingOf e p = cond (isUp e p) Up (cond (isDown e p) Down None)
 
@@ -130,28 +124,15 @@ unfoldable pub placeOf : List Edge → Point → Lies
 unfolding walk countOf isUp isDown
 placeOf es p = walk 0 es p (parity (countOf isUp es p + countOf isDown es p))
 
--- ---- what inner functions find: a corner by its number, and the number of the next
+-- ---- a corner by its number, the number of the next, and the edge between them
 abbrev pub cornerAt : List Float → ℕ → Point
 cornerAt xs k = record { x = getD xs (2 * k) nan; y = getD xs (2 * k + 1) nan }
 
 abbrev pub nextOf : ℕ → ℕ → ℕ
 nextOf n k = cond (ltb (k + 1) n) (k + 1) 0
 
-abbrev pub withEdge : Counts → Crossing → Counts
-withEdge c None = c
-withEdge c Up = record { ups = c .ups + 1; downs = c .downs }
-withEdge c Down = record { ups = c .ups; downs = c .downs + 1 }
-
-abbrev pub countsOf : List Edge → Point → Counts
-countsOf es p = record { ups = countOf isUp es p; downs = countOf isDown es p }
-
--- the corners' refusals: their places begin at 2
-abbrev pub cornersFault : List Float → Outcome Unit
-cornersFault xs = acceptingFrom 2 xs tt
-
-unfoldable pub faultSaid : Fault → Outcome Unit
-faultSaid FaultNone = answers tt
-faultSaid (FaultAt r) = refuses (r .number) (r .place)
+abbrev pub edgeAt : List Float → ℕ → Edge
+edgeAt xs k = edge (cornerAt xs k) (cornerAt xs (nextOf (length xs / 2) k))
 
 -- a zone that is not refused, of n corners
 pub record Zoned (xs : List Float) (n : ℕ) : Type 0 where
@@ -174,9 +155,13 @@ zoneSaid (Refused r) = refuses (r .number) (r .place)
 
 -- "Zone 5, 4, 1, then 3 with the point at places 0 and 1 and corners from 2"
 unfoldable pub zoneOf : List Float → Point → Outcome Lies
-unfolding acceptingFrom cornersOf edgesOf placeOf
+unfolding passingFrom acceptedWithin cornersOf edgesOf placeOf
 zoneOf corners p =
     cond (eqb (length corners % 2) 1) (refuses oddLength 0)
     (cond (ltb (length corners / 2) fewest) (refuses tooFewCorners 0)
     (cond (ltb most (length corners / 2)) (refuses tooMany 0)
     (acceptingFrom 0 (p .x ∷ p .y ∷ corners) (placeOf (edgesOf (cornersOf corners)) p))))
+
+-- the promise of `zone`
+abbrev pub ZoneSays : List Float → Point → Zone → Type 0
+ZoneSays corners p z = zoneSaid z ≡ zoneOf corners p

@@ -1,7 +1,8 @@
 // One edge of a zone and a point, all accepted: whether it is on the edge, and how the edge counts.
 ghost use mathlib.Core.Path.{_≡_};
 ghost use Rattle.geometry.specs.Side.{Accepted};
-ghost use Rattle.geometry.specs.Zone.{between, straddling, edge, onEdge, crossingOf};
+ghost use Rattle.geometry.specs.Zone.{between, edge, onEdge, crossingOf};
+ghost use Rattle.geometry.specs.Parts.{InBox, Rises, Falls};
 use crate::turning::turn;
 use point::Point;
 use sum::answer::Sign;
@@ -28,33 +29,11 @@ pub fn lies_between(a: f64, b: f64, v: f64) -> bool
     false
 }
 
-// Whether an edge from height a to height b goes up or down past y: an upward one includes its start and not its end, a downward one its
-// end and not its start.
-pub fn straddles(a: f64, b: f64, y: f64) -> bool
-    ensures { λ r. ⌜ r ≡ straddling a b y ⌝ }
-{
-    if a <= y {
-        if y < b {
-            return true;
-        }
-    }
-    if b <= y {
-        return y < a;
-    }
-    false
-}
-
-// The box is compared first: most edges are done with that.
-pub fn on_edge(a: Point, b: Point, p: Point) -> bool
-    requires { ⌜ Accepted a × Accepted b × Accepted p ⌝ }
+// Whether a point in the box of an edge is on it.
+pub fn meets(a: Point, b: Point, p: Point) -> bool
+    requires { ⌜ Accepted a × Accepted b × Accepted p × InBox (edge a b) p ⌝ }
     ensures { λ r. ⌜ r ≡ onEdge (edge a b) p ⌝ }
 {
-    if !lies_between(a.y, b.y, p.y) {
-        return false;
-    }
-    if !lies_between(a.x, b.x, p.x) {
-        return false;
-    }
     let t = turn(a, b, p);
     let s = t.sign;
     match s {
@@ -64,31 +43,30 @@ pub fn on_edge(a: Point, b: Point, p: Point) -> bool
     }
 }
 
-// An upward edge includes its start and not its end, a downward one its end and not its start.
-pub fn crosses(a: Point, b: Point, p: Point) -> Crossing
-    requires { ⌜ Accepted a × Accepted b × Accepted p ⌝ }
+// How an edge counts that goes up past p: it includes its start and not its end.
+pub fn rising(a: Point, b: Point, p: Point) -> Crossing
+    requires { ⌜ Accepted a × Accepted b × Accepted p × Rises (edge a b) p ⌝ }
     ensures { λ r. ⌜ r ≡ crossingOf (edge a b) p ⌝ }
 {
-    if a.y <= p.y {
-        if p.y < b.y {
-            let t = turn(a, b, p);
-            let s = t.sign;
-            return match s {
-                Sign::Plus => Crossing::Up,
-                Sign::Zero => Crossing::None,
-                Sign::Minus => Crossing::None,
-            };
-        }
-        return Crossing::None;
+    let t = turn(a, b, p);
+    let s = t.sign;
+    match s {
+        Sign::Plus => Crossing::Up,
+        Sign::Zero => Crossing::None,
+        Sign::Minus => Crossing::None,
     }
-    if b.y <= p.y {
-        let t = turn(a, b, p);
-        let s = t.sign;
-        return match s {
-            Sign::Minus => Crossing::Down,
-            Sign::Zero => Crossing::None,
-            Sign::Plus => Crossing::None,
-        };
+}
+
+// How an edge counts that goes down past p: it includes its end and not its start.
+pub fn falling(a: Point, b: Point, p: Point) -> Crossing
+    requires { ⌜ Accepted a × Accepted b × Accepted p × Falls (edge a b) p ⌝ }
+    ensures { λ r. ⌜ r ≡ crossingOf (edge a b) p ⌝ }
+{
+    let t = turn(a, b, p);
+    let s = t.sign;
+    match s {
+        Sign::Minus => Crossing::Down,
+        Sign::Zero => Crossing::None,
+        Sign::Plus => Crossing::None,
     }
-    Crossing::None
 }

@@ -1,6 +1,6 @@
 // The side of a point, for all doubles.
 ghost use mathlib.Core.Path.{_≡_};
-ghost use Rattle.geometry.specs.Side.{said, sideOf};
+ghost use Rattle.geometry.specs.Side.{SideSays};
 use crate::answer::Side;
 use crate::turning::turn;
 use double::refusal::NOT_ACCEPTED;
@@ -19,7 +19,7 @@ fn refused(place: usize) -> Side
 
 // The side of r against the line from p to q, or refusal 3 at the first coordinate that is not accepted.
 pub fn side(p: Point, q: Point, r: Point) -> Side
-    ensures { λ s. ⌜ said s ≡ sideOf p q r ⌝ }
+    ensures { λ s. ⌜ SideSays p q r s ⌝ }
 {
     if !accepted(p.x) {
         return refused(0);

@@ -10,10 +10,10 @@ use sum::answer::Run;
 use sum::answer::Sign;
 use sum::answer::Verdict;
 
-// More steps than any side takes.
-const MOST_STEPS: u32 = 480;
+// The run of a side goes to its end.
+const TO_THE_END: u32 = u32::MAX;
 
-// What no side comes to: the twelve summands are finite, and the budget is enough.
+// What no side comes to: the twelve summands are finite, and the greatest budget is enough.
 fn never() -> Turn {
     Turn {
         sign: Sign::Zero,
@@ -28,7 +28,7 @@ fn exact(p: Point, q: Point, r: Point) -> Turn
     ensures { λ t. ⌜ turnSaid t ≡ exactOf p q r ⌝ }
 {
     let mut list = summands(p, q, r);
-    let Run::Done(ran) = sum::run(&mut list, MOST_STEPS) else {
+    let Run::Done(ran) = sum::run(&mut list, TO_THE_END) else {
         return never();
     };
     let v = ran.verdict;

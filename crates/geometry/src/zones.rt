@@ -3,15 +3,15 @@ ghost use mathlib.Core.Path.{_≡_};
 ghost use Prim.Native.Nat.{_+_, _*_, _≤_, _<_};
 ghost use lib.ListN.{length};
 ghost use Rattle.geometry.specs.Side.{Accepted};
-ghost use Rattle.geometry.specs.Zone.{Zoned, edge, onEdge, crossingOf, cornerAt, nextOf, withEdge, countsOf, cornersFault, faultSaid};
-ghost use Rattle.geometry.specs.Zone.{cornersOf, edgesOf, placeOf, placeSaid, zoneOf, zoneSaid};
+ghost use Rattle.geometry.specs.Zone.{cornersOf, edge, edgesOf, onEdge, crossingOf, placeOf, placeSaid, cornerAt, nextOf, Zoned, ZoneSays};
+ghost use Rattle.geometry.specs.Parts.{withEdge, countsOf, cornersFault, faultSaid};
 use crate::answer::Place;
 use crate::answer::Zone;
 use crate::edges::Crossing;
-use crate::edges::crosses;
+use crate::edges::falling;
 use crate::edges::lies_between;
-use crate::edges::on_edge;
-use crate::edges::straddles;
+use crate::edges::meets;
+use crate::edges::rising;
 use double::refusal::NOT_ACCEPTED;
 use double::refusal::ODD_LENGTH;
 use double::refusal::Refusal;
@@ -43,35 +43,53 @@ fn next_of(n: usize, k: usize) -> usize
     if k + 1 < n { k + 1 } else { 0 }
 }
 
-fn height_at(corners: &[f64], k: usize) -> f64
+fn x_at(corners: &[f64], k: usize) -> f64
+    requires { ⌜ (k < 64) × (2 * k + 1 < length (now corners)) ⌝ }
+    ensures { λ x. ⌜ x ≡ cornerAt (now (corners .entry)) k .x ⌝ }
+{
+    corners[2 * k]
+}
+
+fn y_at(corners: &[f64], k: usize) -> f64
     requires { ⌜ (k < 64) × (2 * k + 1 < length (now corners)) ⌝ }
     ensures { λ y. ⌜ y ≡ cornerAt (now (corners .entry)) k .y ⌝ }
 {
     corners[2 * k + 1]
 }
 
-// Whether p is on the edge from corner k to corner j. Heights are compared before corners are put together: most edges are done with that.
+// Whether p is on the edge from corner k to corner j. Its box is compared before corners are put together: most edges are done with that.
 fn on_edge_at(corners: &[f64], k: usize, j: usize, p: Point) -> bool
     requires { ⌜ (k < 64) × (2 * k + 1 < length (now corners)) × (j < 64) × (2 * j + 1 < length (now corners)) ⌝ }
     requires { ⌜ Accepted (cornerAt (now corners) k) × Accepted (cornerAt (now corners) j) × Accepted p ⌝ }
     ensures { λ r. ⌜ r ≡ onEdge (edge (cornerAt (now (corners .entry)) k) (cornerAt (now (corners .entry)) j)) p ⌝ }
 {
-    if !lies_between(height_at(corners, k), height_at(corners, j), p.y) {
+    if !lies_between(y_at(corners, k), y_at(corners, j), p.y) {
         return false;
     }
-    on_edge(corner_at(corners, k), corner_at(corners, j), p)
+    if !lies_between(x_at(corners, k), x_at(corners, j), p.x) {
+        return false;
+    }
+    meets(corner_at(corners, k), corner_at(corners, j), p)
 }
 
-// How the edge from corner k to corner j counts, likewise.
+// How the edge from corner k to corner j counts. Its heights are compared before corners are put together, likewise.
 fn crosses_at(corners: &[f64], k: usize, j: usize, p: Point) -> Crossing
     requires { ⌜ (k < 64) × (2 * k + 1 < length (now corners)) × (j < 64) × (2 * j + 1 < length (now corners)) ⌝ }
     requires { ⌜ Accepted (cornerAt (now corners) k) × Accepted (cornerAt (now corners) j) × Accepted p ⌝ }
     ensures { λ r. ⌜ r ≡ crossingOf (edge (cornerAt (now (corners .entry)) k) (cornerAt (now (corners .entry)) j)) p ⌝ }
 {
-    if !straddles(height_at(corners, k), height_at(corners, j), p.y) {
+    let a = y_at(corners, k);
+    let b = y_at(corners, j);
+    if a <= p.y {
+        if p.y < b {
+            return rising(corner_at(corners, k), corner_at(corners, j), p);
+        }
         return Crossing::None;
     }
-    crosses(corner_at(corners, k), corner_at(corners, j), p)
+    if b <= p.y {
+        return falling(corner_at(corners, k), corner_at(corners, j), p);
+    }
+    Crossing::None
 }
 
 // How many edges count upward, and how many downward.
@@ -171,7 +189,7 @@ fn refused(number: u32, place: usize) -> Zone
 
 // Whether p is outside the zone, on its border or inside.
 pub fn zone(corners: &[f64], p: Point) -> Zone
-    ensures { λ z. ⌜ zoneSaid z ≡ zoneOf (now (corners .entry)) p ⌝ }
+    ensures { λ z. ⌜ ZoneSays (now (corners .entry)) p z ⌝ }
 {
     if corners.len() % 2 == 1 {
         return refused(ODD_LENGTH, 0);

@@ -1,11 +1,13 @@
 -- Accepted coordinates, by 01's section Numbers.
 use Prim.Native.Nat.{ℕ, _+_, _-_, _^_}
+use mathlib.Core.Path.{_≡_}
 use mathlib.Core.Bool.{Bool, false, _&&_, _||_, cond}
-use mathlib.Core.List.{List, [], _∷_}
+use mathlib.Core.List.{List}
 use lib.Dec.{leb, eqb}
 use lib.Ieee.{Float, nan, inf, fin, binary64, lt, neg, ofBits}
 use Rattle.double.specs.Worth.{mag}
-use Rattle.double.specs.Outcome.{Outcome, answers, refuses, notAccepted}
+use Rattle.double.specs.Outcome.{Outcome, notAccepted}
+use Rattle.double.specs.Search.{passingFrom}
 
 -- "A coordinate is accepted if it is a zero, or its magnitude is from 2^-400 to 2^400, both ends included":
 -- n units of 2^-1074, with k for the 400
@@ -24,11 +26,13 @@ reach = 400
 abbrev pub acceptedOf : Float → Bool
 acceptedOf x = acceptedWithin reach x
 
+-- the promise: whether it is accepted
+abbrev pub AcceptedSays : Float → Bool → Type 0
+AcceptedSays x r = r ≡ acceptedOf x
+
 -- "coordinate not accepted": refusal 3 at the first such entry of a list whose places begin at i; otherwise the answer
-unfoldable pub acceptingFrom : {A : Type 0} → ℕ → List Float → A → Outcome A
-unfolding acceptedWithin
-acceptingFrom i [] answer = answers answer
-acceptingFrom i (x ∷ xs) answer = cond (acceptedOf x) (acceptingFrom (i + 1) xs answer) (refuses notAccepted i)
+abbrev pub acceptingFrom : {A : Type 0} → ℕ → List Float → A → Outcome A
+acceptingFrom i xs answer = passingFrom acceptedOf notAccepted i xs answer
 
 -- x without its sign; a -0 stays as it is
 unfoldable pub magnitudeOf : Float → Float

@@ -1,6 +1,6 @@
 // The coordinates that geometry and tracks accept, and the point.
 ghost use mathlib.Core.Path.{_≡_};
-ghost use Rattle.point.specs.Accepted.{magnitudeOf, acceptedOf};
+ghost use Rattle.point.specs.Accepted.{magnitudeOf, AcceptedSays};
 
 // A point of the ground plan.
 pub struct Point {
@@ -21,7 +21,7 @@ fn magnitude(x: f64) -> f64
 
 // Whether x is a zero, or of a magnitude from 2^-400 to 2^400. An infinity or not-a-number is not.
 pub fn accepted(x: f64) -> bool
-    ensures { λ r. ⌜ r ≡ acceptedOf x ⌝ }
+    ensures { λ r. ⌜ AcceptedSays x r ⌝ }
 {
     let m = magnitude(x);
     if LEAST <= m {

@@ -1,5 +1,18 @@
 // The bytes of a file.
+ghost use mathlib.Core.Path.{_≡_};
+ghost use Prim.Native.Nat.{_+_};
+ghost use lib.ListN.{length};
+ghost use Rattle.track.specs.File.{mostBytes};
 use libc::EINTR;
+
+// Bytes that are read of a file: one more than the longest has, and more can not alter the first refusal.
+const FILE: usize = 10243;
+
+pub fn room() -> [u8; FILE]
+    ensures { λ r. ⌜ mostBytes + 1 ≡ length r ⌝ }
+{
+    [0; FILE]
+}
 
 // What was read of a file.
 pub enum Held {

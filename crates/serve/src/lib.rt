@@ -7,12 +7,9 @@ use files::Held;
 use report::answer::Judged;
 use text::TEXT;
 
-// Bytes that are read of a file: one more than the longest has, and more can not alter the first refusal.
-const FILE: usize = 10243;
-
 // Reads zone.trk, then release.trk, of the working folder, and prints the places of the releases, or why there are none.
 pub fn desk() {
-    let mut bytes = [0u8; FILE];
+    let mut bytes = files::room();
     match files::bytes_of(b"zone.trk", &mut bytes) {
         Held::Bytes(n) => judged(files::first(&bytes, n)),
         Held::Unreadable => text::say(b"unreadable zone\n"),
@@ -34,7 +31,7 @@ fn refused(r: Refusal) {
 }
 
 fn opened(zone: &[u8]) {
-    let mut bytes = [0u8; FILE];
+    let mut bytes = files::room();
     match files::bytes_of(b"release.trk", &mut bytes) {
         Held::Bytes(n) => told(zone, files::first(&bytes, n)),
         Held::Unreadable => text::say(b"unreadable releases\n"),

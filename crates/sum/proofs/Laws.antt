@@ -25,13 +25,19 @@ pub mod Total
 pub mod Sign
 -- the largest power of two that divides every entry
 pub mod Grain
--- the ceiling: its two passes, its bound, and what `ceiling` promises
+-- division rounded up
+pub mod RoundUp
+-- the ceiling: its two passes, its bounds, and what `ceiling` promises
 pub mod Ceiling
 -- each step lowers the weight of a list: the ceiling is enough
 pub mod Descent
+-- how many steps the rule takes, and what a budget makes of them
+pub mod Settled
 -- what words are worth, and their sign
 pub mod Words
 -- words that change: carry, borrow, an entry more
 pub mod Changed
 -- the plain sum, and what `plain` promises
 pub mod Plain
+-- the demands, of whatever keeps the promises of `run`, `ceiling` and `plain`: what callers cite
+pub mod Calls

@@ -1,5 +1,6 @@
 -- The ceiling of a list. u, the largest power of two that divides each nonzero entry, is 2 ^ grain units of 2^-1074.
 use Prim.Native.Nat.{ℕ, _+_, _-_, _/_, _^_, min}
+use mathlib.Core.Path.{_≡_}
 use mathlib.Core.Bool.{cond}
 use mathlib.Core.List.{List, [], _∷_}
 use lib.Count.{trailingZeros}
@@ -45,3 +46,7 @@ ceilingSaid (Refused r) = refuses (r .number) (r .place)
 unfoldable pub ceilingAnswer : List Float → Outcome ℕ
 unfolding checked ceilingOf
 ceilingAnswer xs = checked xs (ceilingOf xs)
+
+-- the promise of `ceiling`
+abbrev pub CeilingSays : List Float → Ceiling → Type 0
+CeilingSays xs r = ceilingSaid r ≡ ceilingAnswer xs

@@ -1,4 +1,5 @@
 -- The plain sum: "the same sign from a total held as 33 words of 64 bits, two's complement, in the units above".
+use mathlib.Core.Path.{_≡_}
 use mathlib.Core.List.{List}
 use lib.IntN.{ℤ}
 use lib.Ieee.{Float}
@@ -18,3 +19,7 @@ plainSaid (Refused r) = refuses (r .number) (r .place)
 unfoldable pub plainOf : List Float → Outcome ℤ
 unfolding checked totalOf sgn
 plainOf xs = checked xs (sgn (totalOf xs))
+
+-- the promise of `plain`
+abbrev pub PlainSays : List Float → Plain → Type 0
+PlainSays xs r = plainSaid r ≡ plainOf xs

@@ -1,16 +1,15 @@
 -- A run: looks and steps, as far as a budget goes; and what `run` promises.
-use Prim.Native.Nat.{ℕ, zero, suc, _+_, _≤_}
+use Prim.Native.Nat.{ℕ, zero, suc, _+_, _-_, _^_, _<_}
 use mathlib.Core.Path.{_≡_}
 use mathlib.Core.List.{List}
 use lib.IntN.{ℤ}
-use lib.ListN.{length}
 use lib.Ieee.{Float}
 use Rattle.double.specs.Outcome.{Outcome, answers, refuses}
-use Rattle.sum.specs.Limit.{limit}
-use Rattle.sum.specs.Refused.{checked, AllFinite}
+use Rattle.sum.specs.Refused.{checked}
 use Rattle.sum.specs.Total.{signNumber}
 use Rattle.sum.specs.Look.{verdictOf}
 use Rattle.sum.specs.Step.{stepOf}
+use Rattle.sum.specs.declared.answer.Sign.{Sign}
 use Rattle.sum.specs.declared.answer.Verdict.{Verdict}
 use Rattle.sum.specs.declared.answer.Verdict.the-variants.{Decided, Undecided}
 use Rattle.sum.specs.declared.answer.Ran.{Ran}
@@ -37,6 +36,15 @@ unfoldable pub after : ℕ → List Float → List Float
 unfolding stepOf
 after zero xs = xs
 after (suc n) xs = after n (stepOf xs)
+
+-- "exactly the number of steps that the published method takes", whatever the budget: a look decides after n steps, and after no fewer
+pub record Settles (xs : List Float) (n : ℕ) : Type 0 where
+  pub decides : (s : Sign) × (verdictOf (after n xs) ≡ Decided s)
+  pub before : (i : ℕ) → i < n → verdictOf (after i xs) ≡ Undecided
+
+-- a budget is "a 32-bit count": the greatest one
+abbrev pub mostBudget : ℕ
+mostBudget = 2 ^ 32 - 1
 
 -- ---- the answer
 
@@ -81,12 +89,7 @@ pub record RunSays (xs : List Float) (budget : ℕ) (r : Run) (after : List Floa
   pub answer : said r ≡ runOf xs budget
   pub left : after ≡ leftOf xs budget
 
--- a list that is not refused
-pub record Accepted (xs : List Float) : Type 0 where
-  pub short : length xs ≤ limit
-  pub finite : AllFinite xs
-
--- the same for the inner run, on such a list
+-- the same for the inner run, on a list that is not refused
 pub record RanSays (xs : List Float) (budget : ℕ) (r : Ran) (after : List Float) : Type 0 where
   pub verdict : r .verdict ≡ ranFrom budget 0 xs .verdict
   pub steps : r .steps ≡ ranFrom budget 0 xs .steps

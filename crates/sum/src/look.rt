@@ -3,7 +3,8 @@ ghost use mathlib.Core.Path.{_≡_};
 ghost use Prim.Native.Nat.{_≤_, _<_};
 ghost use lib.ListN.{length};
 ghost use Rattle.sum.specs.Limit.{limit};
-ghost use Rattle.sum.specs.Look.{verdictBy};
+ghost use lib.Ieee.{lt};
+ghost use Rattle.sum.specs.Look.{times, verdictBy};
 ghost use Rattle.sum.specs.Tally.{seenOf, tallyOf, lookAt};
 use crate::answer::Sign;
 use crate::answer::Verdict;
@@ -114,7 +115,14 @@ pub fn look_at(t: Tally) -> Look
     Look::Both(t.a, t.b)
 }
 
-// What a look decides, of m positive and n negative entries. Each product is rounded once; an infinite one decides nothing.
+// Whether a is greater than k times b, that product rounded once: an infinite one decides nothing.
+fn exceeds(a: f64, k: u32, b: f64) -> bool
+    ensures { λ r. ⌜ r ≡ lt (times k b) a ⌝ }
+{
+    (k as f64) * b < a
+}
+
+// What a look decides, of m positive and n negative entries.
 pub fn judged(found: Look, m: u32, n: u32) -> Verdict
     ensures { λ r. ⌜ r ≡ verdictBy m n found ⌝ }
 {
@@ -124,10 +132,10 @@ pub fn judged(found: Look, m: u32, n: u32) -> Verdict
         Look::Negative(_) => Verdict::Decided(Sign::Minus),
         Look::Both(a, q) => {
             let b = -q;
-            if (n as f64) * b < a {
+            if exceeds(a, n, b) {
                 return Verdict::Decided(Sign::Plus);
             }
-            if (m as f64) * a < b {
+            if exceeds(b, m, a) {
                 return Verdict::Decided(Sign::Minus);
             }
             Verdict::Undecided

@@ -10,9 +10,8 @@ ghost use Rattle.double.specs.Apart.{apartOf};
 ghost use Rattle.double.specs.Outcome.{answers};
 ghost use Rattle.double.specs.Worth.{mag};
 ghost use Rattle.sum.specs.Limit.{divisor};
-ghost use Rattle.sum.specs.Refused.{AllFinite};
-ghost use Rattle.sum.specs.Run.{Accepted};
-ghost use Rattle.sum.specs.Ceiling.{digits, grainOf, roundUp, weightOf, ceilingSaid, ceilingAnswer};
+ghost use Rattle.sum.specs.Refused.{Accepted, AllFinite};
+ghost use Rattle.sum.specs.Ceiling.{digits, grainOf, roundUp, weightOf, CeilingSays};
 use crate::answer::Ceiling;
 use crate::fault::Fault;
 use crate::fault::first_fault;
@@ -115,7 +114,7 @@ fn weight(list: &[f64], grain: u32) -> u32
 
 // A run on the list with this budget, or a greater one, always decides.
 pub fn ceiling(list: &[f64]) -> Ceiling
-    ensures { λ r. ⌜ ceilingSaid r ≡ ceilingAnswer (now (list .entry)) ⌝ }
+    ensures { λ r. ⌜ CeilingSays (now (list .entry)) r ⌝ }
 {
     match first_fault(list) {
         Fault::At(r) => Ceiling::Refused(r),

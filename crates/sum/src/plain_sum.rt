@@ -1,6 +1,5 @@
 // The plain sum: the sign of the exact total, in whole numbers. The list is only read.
-ghost use mathlib.Core.Path.{_≡_};
-ghost use Rattle.sum.specs.Plain.{plainSaid, plainOf};
+ghost use Rattle.sum.specs.Plain.{PlainSays};
 use crate::answer::Plain;
 use crate::fault::LIMIT;
 use crate::words::WORDS;
@@ -14,7 +13,7 @@ use double::take_apart;
 
 // The sign of the list's total. One pass: an entry that has no parts is the first that is not finite.
 pub fn plain(list: &[f64]) -> Plain
-    ensures { λ r. ⌜ plainSaid r ≡ plainOf (now (list .entry)) ⌝ }
+    ensures { λ r. ⌜ PlainSays (now (list .entry)) r ⌝ }
 {
     if LIMIT < list.len() {
         return Plain::Refused(Refusal {

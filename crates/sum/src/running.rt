@@ -1,5 +1,6 @@
 // A run: looks and steps, as far as a budget goes.
-ghost use Rattle.sum.specs.Run.{Accepted, RanSays, RunSays};
+ghost use Rattle.sum.specs.Refused.{Accepted};
+ghost use Rattle.sum.specs.Run.{RanSays, RunSays};
 use crate::answer::Ran;
 use crate::answer::Run;
 use crate::answer::Verdict;

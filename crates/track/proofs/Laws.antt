@@ -7,17 +7,21 @@ pub mod Written
 pub mod Number
 -- the bytes of a number that was read
 pub mod Taken
+-- the bytes at which a number is refused
+pub mod Faults
 -- the difference of two patterns
 pub mod Difference
 -- one coordinate of a file
 pub mod Coordinate
+-- the coordinates of a file up to what stops a reader
+pub mod Scan
 -- the bytes of a list of points
 pub mod File
 -- what the writer answers
 pub mod Write
 -- what the reader answers
 pub mod Read
--- which numbers refusals have
+-- which refusals the reader gives, and the bytes at a 6 or 7
 pub mod Refusals
 -- the points of an accepted file
 pub mod Points

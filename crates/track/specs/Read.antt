@@ -1,14 +1,14 @@
 -- What the reader answers for any bytes, by 01's sections 'The track file' and 'Refusal numbers'.
-use Prim.Native.Nat.{ℕ, zero, suc, _*_, _/_}
+use Prim.Native.Nat.{ℕ, _*_, _/_}
 use mathlib.Core.Path.{_≡_}
-use mathlib.Core.List.{List, [], _∷_}
+use mathlib.Core.List.{List}
 use lib.Dec.{leb}
 use lib.ListN.{length}
 use lib.Ieee.{Float}
-use Rattle.double.specs.Outcome.{Outcome, answers, refuses, tooMany, noRoom, bytesAfter}
+use Rattle.double.specs.Outcome.{Outcome, answers, refuses, tooMany, noRoom}
 use Rattle.track.specs.Judged.{require, also, filled}
 use Rattle.track.specs.Number.{numberOf}
-use Rattle.track.specs.Coordinate.{coordinateOf}
+use Rattle.track.specs.Scan.{scanFrom, values}
 use Rattle.track.specs.File.{limit}
 use Rattle.track.specs.declared.number.Number.{Number}
 use Rattle.track.specs.declared.answer.Reading.{Reading}
@@ -16,15 +16,12 @@ use Rattle.track.specs.declared.answer.Reading.the-variants.{Points, Ref
 use Rattle.track.specs.declared.reader.Decoded.{Decoded}
 use Rattle.track.specs.declared.reader.Decoded.the-variants.{Whole, Refused as Bad}
 
--- "number by number 6 or 7, then 3 at that number's offset; last 8": the last n coordinates of a file, which begin at an offset, after the
--- preceding pattern of the axis whose turn it is and that of the other
+-- the values of the last n coordinates of a file, or the refusal that stopped the scan of them
 unfoldable pub coordinatesOf : List ℕ → ℕ → ℕ → ℕ → ℕ → Outcome (List Float)
-unfolding coordinateOf
-coordinatesOf bytes start before other zero = also (require (leb (length bytes) start) bytesAfter start) (λ _. answers [])
-coordinatesOf bytes start before other (suc n) =
-    also (coordinateOf bytes start before) (λ c.
-    also (coordinatesOf bytes (c .next) other (c .pattern) n) (λ rest.
-    answers (c .value ∷ rest)))
+unfolding scanFrom
+coordinatesOf bytes start before other n =
+    let s = scanFrom bytes start before other n in
+    also (s .stop) (λ _. answers (values (s .coordinates)))
 
 -- what follows the number of points: "1, 9 (the list is shorter than two per point)", then the coordinates
 unfoldable pub countedOf : ℕ → List ℕ → Number → ℕ → Outcome (List Float)

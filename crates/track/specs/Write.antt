@@ -7,7 +7,8 @@ use lib.Dec.{eqb, leb}
 use lib.ListN.{length, getD}
 use lib.Ieee.{Float, nan}
 use Rattle.double.specs.Outcome.{Outcome, answers, refuses, oddLength, tooMany, noRoom}
-use Rattle.point.specs.Accepted.{acceptedOf, acceptingFrom}
+use Rattle.double.specs.Search.{passingFrom}
+use Rattle.point.specs.Accepted.{acceptedWithin, acceptedOf, acceptingFrom}
 use Rattle.track.specs.Judged.{require, also, filled}
 use Rattle.track.specs.File.{limit, coordinateBytes, fileOf}
 use Rattle.track.specs.declared.answer.Writing.{Writing}
@@ -21,7 +22,7 @@ acceptedFrom i points = acceptingFrom i points tt
 
 -- the file's bytes, or the refusal: "Writer 5, 1, 3 (index in the list), 9", for at most `most` points and `room` lent bytes
 unfoldable pub writeOf : ℕ → List Float → ℕ → Outcome (List ℕ)
-unfolding acceptingFrom fileOf
+unfolding passingFrom acceptedWithin fileOf
 writeOf most points room =
     also (require (eqb (length points % 2) 0) oddLength 0) (λ _.
     also (require (leb (length points) (2 * most)) tooMany 0) (λ _.
@@ -51,7 +52,7 @@ AllAccepted points = (i : ℕ) → i < length points → acceptedOf (getD points
 
 -- the length of the coordinates' bytes, or the first coordinate that is not accepted
 unfoldable pub measureOf : List Float → Outcome ℕ
-unfolding acceptingFrom coordinateBytes
+unfolding passingFrom acceptedWithin coordinateBytes
 measureOf points = also (acceptedFrom 0 points) (λ _. answers (length (coordinateBytes 0 0 points)))
 
 -- 01's number and values for each case of the code's answer

@@ -1,5 +1,6 @@
 -- What the viewer's two entries answer, by 01's section 'Desk and viewer'.
 use Prim.Native.Nat.{ℕ, zero, suc, _+_, _%_}
+use mathlib.Core.Path.{_≡_}
 use mathlib.Core.Bool.{Bool, false, cond, _||_}
 use mathlib.Core.List.{List, [], _∷_}
 use lib.Dec.{eqb}
@@ -32,6 +33,10 @@ turnAnswer t = signAnswer (t .sign)
 unfoldable pub sideEntry : ℕ → ℕ → ℕ → ℕ → ℕ → ℕ → ℕ
 sideEntry px py qx qy rx ry = entryOf turnAnswer (sideOf (pointOf px py) (pointOf qx qy) (pointOf rx ry))
 
+-- the promise
+abbrev pub SideEntrySays : ℕ → ℕ → ℕ → ℕ → ℕ → ℕ → ℕ → Type 0
+SideEntrySays px py qx qy rx ry n = n ≡ sideEntry px py qx qy rx ry
+
 -- "A length that is no multiple of 16 is refusal 5"; any other is a zone, with its own answers and refusals
 unfoldable pub zoneOfBytes : List ℕ → Point → Outcome Lies
 zoneOfBytes bytes p = cond (eqb (length bytes % cornerBytes) 0) (zoneOf (doublesOf bytes) p) (refuses oddLength 0)
@@ -39,6 +44,10 @@ zoneOfBytes bytes p = cond (eqb (length bytes % cornerBytes) 0) (zoneOf (doubles
 -- "zone: two patterns and a byte slice of corners"; "0, 1, 2 for .. outside, border, inside"
 unfoldable pub zoneEntry : ℕ → ℕ → List ℕ → ℕ
 zoneEntry px py bytes = entryOf placeNumber (zoneOfBytes bytes (pointOf px py))
+
+-- the promise
+abbrev pub ZoneEntrySays : ℕ → ℕ → List ℕ → ℕ → Type 0
+ZoneEntrySays px py bytes n = n ≡ zoneEntry px py bytes
 
 -- ---- every number that an entry can answer
 abbrev pub isOneOf : List ℕ → ℕ → Bool

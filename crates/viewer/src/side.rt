@@ -1,6 +1,5 @@
 // The side of a point, for C.
-ghost use mathlib.Core.Path.{_≡_};
-ghost use Rattle.viewer.specs.Entries.{sideEntry};
+ghost use Rattle.viewer.specs.Entries.{SideEntrySays};
 use crate::answers::refusal_answer;
 use crate::answers::sign_answer;
 use crate::bytes::point_of;
@@ -9,7 +8,7 @@ use geometry::answer::Side;
 // The side of r against the line from p to q, each coordinate by its pattern: 0, 1, 2 for -1, 0, +1; or 103.
 #[no_mangle]
 pub extern "C" fn ghomxarin_side(px: u64, py: u64, qx: u64, qy: u64, rx: u64, ry: u64) -> u32
-    ensures { λ n. ⌜ n ≡ sideEntry px py qx qy rx ry ⌝ }
+    ensures { λ n. ⌜ SideEntrySays px py qx qy rx ry n ⌝ }
 {
     let p = point_of(px, py);
     let q = point_of(qx, qy);

@@ -3,7 +3,7 @@ ghost use mathlib.Core.Path.{_≡_};
 ghost use Prim.Native.Nat.{_*_};
 ghost use lib.ListN.{length};
 ghost use Rattle.geometry.specs.Zone.{most};
-ghost use Rattle.viewer.specs.Entries.{zoneEntry};
+ghost use Rattle.viewer.specs.Entries.{ZoneEntrySays};
 use crate::answers::place_answer;
 use crate::answers::refusal_answer;
 use crate::bytes::decode;
@@ -34,7 +34,7 @@ fn zeros() -> [f64; ROOM]
 // The length is judged before a corner is read.
 #[no_mangle]
 pub extern "C" fn ghomxarin_zone(px: u64, py: u64, corners: &[u8]) -> u32
-    ensures { λ n. ⌜ n ≡ zoneEntry px py (now (corners .entry)) ⌝ }
+    ensures { λ n. ⌜ ZoneEntrySays px py (now (corners .entry)) n ⌝ }
 {
     if corners.len() % CORNER != 0 {
         return refusal_answer(ODD_LENGTH);

@@ -1,6 +1,4 @@
 -- The laws of the zone for a reader of its promise, each file over those above it.
--- what an answer of the zone says of the list, and what is enough for one
-pub mod Answered
 -- the place by three counts, in which order does not matter
 pub mod Counts
 -- the list of corners backwards, and begun at another corner

@@ -18,7 +18,7 @@ use lib.Ieee.Scale.{finite, overflow}
 use borrow.Author.Tests.{le-leb, lt-leb}
 use Rattle.double.specs.Worth.{mag, worth, ofUnits}
 use Rattle.double.specs.Outcome.{Outcome, answers, refuses, notFinite, Fixes}
-use Rattle.double.specs.Apart.{said, apartOf, exponentOf, significandOf, together}
+use Rattle.double.specs.Apart.{said, apartOf, TakenSays, exponentOf, significandOf, together}
 use Rattle.double.proofs.Laws.Digits.{Rep}
 use Rattle.double.proofs.Laws.Units.{Real, mag-lt, mag-rep, ofUnits-own}
 use Rattle.double.proofs.Laws.Outcome.{refuses-once}
@@ -217,7 +217,7 @@ said-once (Apart p) (Refused r) e = cc
 said-once (Refused r) (Apart q) e = cc
 said-once (Refused r) (Refused q) e = ap Refused (refuses-once r q e)
 
-pub take-apart-fixed : (x : Float) → Fixes (λ (r : Taken). said r ≡ apartOf x)
+pub take-apart-fixed : (x : Float) → Fixes (TakenSays x)
 take-apart-fixed x a b p q = said-once a b (p ∙ sym q)
 
 -- ---- what the promise tells a caller

@@ -11,7 +11,7 @@ use native.Mathlib.Omega.{arith}
 use lib.Dec.{T, leb, leb→le, nleb→lt}
 use lib.Pow.{pow-add, pow-pos}
 use Rattle.double.proofs.Laws.Digits.{cut, ulp, Rep, gap, cut-enough, rep-of, rep-edge, rep-dvd, rep-scale}
-use Rattle.double.proofs.Laws.Rounding.{rn, rn-dvd, rn-dvd-ulp, rn-fixed, rn-near, rn-half, rn-le, rn-ge}
+use Rattle.double.proofs.Laws.Rounding.{rn, rn-dvd, rn-dvd-ulp, rn-kept, rn-near, rn-half, rn-le, rn-ge}
 
 module _ (p : ℕ) (P : 0 < p) where
   pub sterbenz : {a b : ℕ} → Rep p a → Rep p b → b ≤ a → a ≤ b + b → Rep p (a - b)
@@ -59,7 +59,7 @@ module _ (p : ℕ) (P : 0 < p) where
         -- where it is the larger: nothing is rounded, and it is b
         go false c d =
             let l = d tt in
-            let e : rn p (a - b) ≡ a - b = rn-fixed p (sterbenz ra rb h (omega arith)) in
+            let e : rn p (a - b) ≡ a - b = rn-kept p (sterbenz ra rb h (omega arith)) in
             subst (λ (z : ℕ). Rep p z) (back (rn p (a - b)) e) rb
 
   -- ---- a against m, rounded: where a is greater than the rounded m it is greater than m

@@ -9,6 +9,7 @@ use lib.Ieee.Compare.{differs-from-itself}
 use lib.Ieee.Bits.{nanBits-is, nanBits-above}
 use borrow.Author.Tests.{lt-ltb, le-ltb}
 use Rattle.double.specs.Outcome.{Fixes}
+use Rattle.double.specs.Pattern.{FromPatternSays, ToPatternSays}
 
 is-nan : (x : Float) → isNan x ≡ true → x ≡ nan
 unfolding isNan
@@ -39,8 +40,8 @@ number-of-itself (inf s) h = tt
 number-of-itself (fin s m e) h = tt
 
 -- ---- no two results satisfy either promise
-pub from-pattern-fixed : (b : ℕ) → Fixes (λ (r : Float). r ≡ ofBits binary64 b)
+pub from-pattern-fixed : (b : ℕ) → Fixes (FromPatternSays b)
 from-pattern-fixed b x y p q = p ∙ sym q
 
-pub to-pattern-fixed : (x : Float) → Fixes (λ (r : ℕ). r ≡ toBits binary64 x)
+pub to-pattern-fixed : (x : Float) → Fixes (ToPatternSays x)
 to-pattern-fixed x a b p q = p ∙ sym q

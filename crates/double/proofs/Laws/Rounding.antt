@@ -88,14 +88,14 @@ unfolding rn
 rn-dvd-ulp p n = dvd-mul-left (ulp p n) (closest n (ulp p n))
 
 -- what has p digits stays
-pub rn-fixed : (p : ℕ) {n : ℕ} → Rep p n → rn p n ≡ n
-rn-fixed p {n} r = go (rn-rounds p n) (div-mul-cancel (ulp p n) r) (pow-pos (cut p n))
+pub rn-kept : (p : ℕ) {n : ℕ} → Rep p n → rn p n ≡ n
+rn-kept p {n} r = go (rn-rounds p n) (div-mul-cancel (ulp p n) r) (pow-pos (cut p n))
   where
     go : {u lo x : ℕ} → Rounds n u lo x → lo ≡ n → 0 < u → x ≡ n
     go r e U = elim (r .side) [ inl c ↦ omega (arith, c .0) | inr c ↦ omega (arith, r .under, c .1) ]
 
 pub rn-zero : (p : ℕ) → rn p 0 ≡ 0
-rn-zero p = rn-fixed p (dvd-zero (ulp p 0))
+rn-zero p = rn-kept p (dvd-zero (ulp p 0))
 
 -- any 2 ^ j that divides n divides the rounded n
 pub rn-dvd : (p j : ℕ) {n : ℕ} → 2 ^ j ∣ n → 2 ^ j ∣ rn p n
@@ -103,7 +103,7 @@ rn-dvd p j {n} d = go (leb j (cut p n)) (leb→le j (cut p n)) (nleb→lt j (cut
   where
     go : (b : Bool) → (T b → j ≤ cut p n) → (T (not b) → cut p n < j) → 2 ^ j ∣ rn p n
     go true a b = dvd-lower (a tt) (rn-dvd-ulp p n)
-    go false a b = subst (λ (x : ℕ). 2 ^ j ∣ x) (sym (rn-fixed p (dvd-lower (le-of-lt (b tt)) d))) d
+    go false a b = subst (λ (x : ℕ). 2 ^ j ∣ x) (sym (rn-kept p (dvd-lower (le-of-lt (b tt)) d))) d
 
 -- ---- it has p digits, and of the numbers of p digits none is nearer to n
 pub rn-near : (p n c : ℕ) → 0 < p → Rep p c → gap (rn p n) n ≤ gap c n
@@ -135,7 +135,7 @@ rn-rep p n P = rep-of p (cut p n) (rn p n) P (rn-dvd-ulp p n) (go (rn-rounds p n
 -- ---- order: rounding keeps n's side of a number that has p digits
 pub rn-le : (p n c : ℕ) → 0 < p → Rep p c → n ≤ c → rn p n ≤ c
 rn-le p n c P r h = elim (eq-or-lt-of-le h) [
-  | inl e ↦ le-of-eq (rn-fixed p (subst (λ (x : ℕ). Rep p x) (sym e) r) ∙ e)
+  | inl e ↦ le-of-eq (rn-kept p (subst (λ (x : ℕ). Rep p x) (sym e) r) ∙ e)
   | inr l ↦ go (rn-rounds p n) (rep-above p n c r l)
 ]
   where
@@ -218,7 +218,7 @@ pub rn-at : (p j n : ℕ) → 0 < p → 2 ^ (p - 1 + j) ≤ n → n ≤ 2 ^ (p +
 rn-at p j n P a b = elim (eq-or-lt-of-le b) [
   | inl e ↦
       let d : 2 ^ j ∣ n = subst (λ (x : ℕ). 2 ^ j ∣ x) (sym e) (pow-dvd (wide p j)) in
-      let f : rn p n ≡ n = rn-fixed p (rep-of p j n P d b) in
+      let f : rn p n ≡ n = rn-kept p (rep-of p j n P d b) in
       (subst (λ (x : ℕ). 2 ^ j ∣ x) (sym f) d, none (rn p n) n (2 ^ j) f)
   | inr l ↦
       let e = cut-is p j n P a l in
@@ -255,7 +255,7 @@ rn-scaled p n t P = go (leb p (size n)) (leb→le p (size n)) (nleb→lt p (size
     short : size n < p → rn p (n * 2 ^ t) ≡ rn p n * 2 ^ t
     short h =
         let r : Rep p n = rep-small p n P (le-of-lt (lt-of-lt-of-le (size-lt n) (pow-mono (le-of-lt h)))) in
-        rn-fixed p (rep-scale p n t P r) ∙ ap (λ (z : ℕ). z * 2 ^ t) (sym (rn-fixed p r))
+        rn-kept p (rep-scale p n t P r) ∙ ap (λ (z : ℕ). z * 2 ^ t) (sym (rn-kept p r))
 
     go : (b : Bool) → (T b → p ≤ size n) → (T (not b) → size n < p) → rn p (n * 2 ^ t) ≡ rn p n * 2 ^ t
     go true h k = long (size-reaches n 0 (lt-of-lt-of-le P (h tt))) (h tt)
@@ -264,4 +264,4 @@ rn-scaled p n t P = go (leb p (size n)) (leb→le p (size n)) (nleb→lt p (size
 pub rep-unscale : (p n t : ℕ) → 0 < p → Rep p (n * 2 ^ t) → Rep p n
 rep-unscale p n t P r =
     subst (λ (z : ℕ). Rep p z)
-    (eq-of-mul-eq-mul-right (2 ^ t) (pow-pos t) (rn p n) n (sym (rn-scaled p n t P) ∙ rn-fixed p r)) (rn-rep p n P)
+    (eq-of-mul-eq-mul-right (2 ^ t) (pow-pos t) (rn p n) n (sym (rn-scaled p n t P) ∙ rn-kept p r)) (rn-rep p n P)

@@ -16,7 +16,7 @@ use lib.Ieee.{Float, Format, prec, low, sub, mul, unlike}
 use lib.Ieee.Scale.{overflow}
 use Rattle.double.specs.Worth.{signBit, mag}
 use Rattle.double.proofs.Laws.Digits.{Rep, rep-scale}
-use Rattle.double.proofs.Laws.Rounding.{rn, rn-fixed, rn-dvd, rn-scaled, rep-unscale}
+use Rattle.double.proofs.Laws.Rounding.{rn, rn-kept, rn-dvd, rn-scaled, rep-unscale}
 use Rattle.double.proofs.Laws.Units.{Real, prec-pos}
 use Rattle.double.proofs.Laws.Signed.{part, Split, sub-exact, sub-round}
 use Rattle.double.proofs.Laws.Multiply.{mul-split}
@@ -225,7 +225,7 @@ module _ (f : Format) (k1 k2 k t1 t2 t g1 g2 g : ℕ) (ek : k1 + k2 ≡ k + low 
   on-side : (s w : Bool) (a c m : ℕ) → Scaled k1 t1 g1 s f x a 0 → Scaled k2 t2 g2 w f y c 0 → a * c ≡ m → Rep (prec f) m
       → m * 2 ^ g < overflow f * 2 ^ t → Scaled k t g (unlike s w) f (mul f x y) m 0
   on-side s w a c m rx ry e r h =
-      let v : rn (prec f) (a * c) ≡ m = ap (λ (z : ℕ). rn (prec f) z) e ∙ rn-fixed (prec f) r in
+      let v : rn (prec f) (a * c) ≡ m = ap (λ (z : ℕ). rn (prec f) z) e ∙ rn-kept (prec f) r in
       scaled-eq (mul-scaled-round s w a c rx ry (subst (λ (z : ℕ). z * 2 ^ g < overflow f * 2 ^ t) (sym v) h)) v refl
 
   -- and of factors on either side

@@ -14,7 +14,7 @@ use lib.Ieee.{Float, Format, prec, add, sub, neg, lt}
 use lib.Ieee.Scale.{overflow}
 use Rattle.double.specs.Worth.{signBit, mag, plus, minus, ofUnits}
 use Rattle.double.proofs.Laws.Digits.{Rep, gap}
-use Rattle.double.proofs.Laws.Rounding.{rn, rn-fixed, rn-zero}
+use Rattle.double.proofs.Laws.Rounding.{rn, rn-kept, rn-zero}
 use Rattle.double.proofs.Laws.Units.{Real, Parts, mag-rep, mag-lt, ofUnits-parts, value-unique}
 use Rattle.double.proofs.Laws.Compare.{lt-is}
 use Rattle.double.proofs.Laws.Sum.{add-law, neg-plus, neg-minus, neg-signBit, neg-mag, neg-real}
@@ -61,13 +61,13 @@ module _ (f : Format) (x y : Float) (rx : Real f x) (ry : Real f y) where
       let r = add-split s w in
       record {
         real = r .real;
-        same = r .same ∙ ap (λ (z : ℕ). rn p z) e ∙ rn-fixed p ra;
-        other = r .other ∙ ap (λ (z : ℕ). rn p z) g ∙ rn-fixed p rb;
+        same = r .same ∙ ap (λ (z : ℕ). rn p z) e ∙ rn-kept p ra;
+        other = r .other ∙ ap (λ (z : ℕ). rn p z) g ∙ rn-kept p rb;
       }
     where
       whole : (n a b : ℕ) → n ≡ a + b → (0 < a → b ≡ 0) → Rep (prec f) a → Rep (prec f) b → rn (prec f) n ≡ a + b
-      whole n zero b e z ra rb = rn-fixed (prec f) (subst (λ (k : ℕ). Rep (prec f) k) (omega arith) rb) ∙ e
-      whole n (suc a) b e z ra rb = rn-fixed (prec f) (subst (λ (k : ℕ). Rep (prec f) k) (omega (arith, z (zero-lt-suc a))) ra) ∙ e
+      whole n zero b e z ra rb = rn-kept (prec f) (subst (λ (k : ℕ). Rep (prec f) k) (omega arith) rb) ∙ e
+      whole n (suc a) b e z ra rb = rn-kept (prec f) (subst (λ (k : ℕ). Rep (prec f) k) (omega (arith, z (zero-lt-suc a))) ra) ∙ e
 
   -- a sum that lies on the side s, or is 0, is rounded there
   pub add-round : (s : Bool) (a : ℕ) → part s f x + part s f y ≡ a + (part (not s) f x + part (not s) f y)

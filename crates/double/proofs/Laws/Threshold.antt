@@ -1,16 +1,16 @@
 -- The filter on four rounded differences, at the floats: a and c in x, b and d in y, of exact magnitudes A, C, B, D. X and Y are the
--- greater magnitudes, E is (constant * X) * Y and D is a * d - b * c, each operation rounded. Where D is above E the exact a * d is above
--- the exact b * c, and where it is below -E it is below. In order: the constant; the comparisons with E and -E; the two products and E in
--- units; the decision. Not here: the numbers (`Filter`); the determinant (`Orientation`). Assumes nothing.
+-- greater magnitudes, E is (K * X) * Y for a constant K and D is a * d - b * c, each operation rounded. Where D is above E the exact a * d
+-- is above the exact b * c, and where it is below -E it is below. In order: the constant; the comparisons with E and -E; the two products
+-- and E in units; the decision. Not here: the numbers (`Filter`); the determinant (`Orientation`). Assumes nothing.
 use mathlib.Core.Path.{_≡_, refl, sym, ap, ap₂, _∙_, subst}
 use mathlib.Core.Bool.{Bool, true, false}
 use Prim.Native.Nat.{ℕ, suc, _+_, _-_, _*_, _^_, _≤_, _<_}
-use native.Mathlib.Nat.{le-trans, le-of-eq, lt-of-le-of-lt, mul-comm, dvd-mul-left, two-pow-succ, zero-lt-suc}
+use native.Mathlib.Nat.{le-trans, le-of-eq, lt-of-le-of-lt, mul-comm, two-pow-succ, zero-lt-suc}
 use native.Mathlib.Omega.{arith}
-use lib.Dec.{T, lit≤, ltb→lt}
+use lib.Dec.{T, ltb→lt}
 use lib.Pow.{pow-pos, pow-lt}
 use lib.IntN.{negsuc}
-use lib.Ieee.{Float, fin, binary64, ofBits, sub, mul, neg, lt, unlike, fits}
+use lib.Ieee.{Float, fin, binary64, ofBits, sub, mul, neg, lt, unlike}
 use lib.Ieee.Scale.{overflow}
 use Rattle.double.specs.Worth.{mag, plus, minus}
 use Rattle.double.proofs.Laws.Digits.{gap}
@@ -23,23 +23,18 @@ use Rattle.double.proofs.Laws.Sized.{Sided, sized-of, split-mag, unitsO
 use Rattle.double.proofs.Laws.Greater.{Greater, greater-sided}
 use Rattle.double.proofs.Laws.Filter.{plusOf, minusOf, rounded-error, threshold-least, filter}
 
--- ---- the constant: the double nearest to 8.8872057372592758e-16
+-- ---- the constant: a K that decides is at least 8 / 2 ^ 53; its grain and bound keep E a whole number of units
+pub record Constant (K : Float) : Type 0 where
+  pub least : 8 * 2 ^ 1074 ≤ mag binary64 K * 2 ^ 53
+  pub sided : Sided false 973 1025 K (mag binary64 K)
+
+-- 01's, the double nearest to 8.8872057372592758e-16
 abbrev pub filterConstant : Float
 filterConstant = fin false 2253174337437697 (negsuc 100)
 
 pub filterConstant-pattern : ofBits binary64 0x3CD0028010000002 ≡ filterConstant
 unfolding ofBits
 filterConstant-pattern = refl
-
-abbrev constantUnits : ℕ
-constantUnits = 2253174337437697 * 2 ^ 973
-
-constant-sided : Sided false 973 1025 filterConstant constantUnits
-constant-sided = record {
-  split = record { real = record { fin = tt; fit = unfold fits in tt }; same = refl; other = refl };
-  grain = dvd-mul-left (2 ^ 973) 2253174337437697;
-  most = lit≤ tt;
-}
 
 -- ---- the comparisons: the rounded difference of two values of known sides
 split-parts : (w : Bool) (x : Float) (n : ℕ) → Split w binary64 x n 0 → (plus binary64 x ≡ plusOf w n) × (minus binary64 x ≡ minusOf w n)
@@ -94,27 +89,36 @@ module _ (v w : Bool) (p q : Float) (R S : ℕ) (rp : Split v binary64 p R 0) (r
 abbrev pub difference : Float → Float → Float → Float → Float
 difference a b c d = sub binary64 (mul binary64 a d) (mul binary64 b c)
 
--- E: (constant * X) * Y, each product rounded
-abbrev pub threshold : Float → Float → Float
-threshold X Y = mul binary64 (mul binary64 filterConstant X) Y
+-- E: (K * X) * Y, each product rounded
+abbrev pub thresholdBy : Float → Float → Float → Float
+thresholdBy K X Y = mul binary64 (mul binary64 K X) Y
 
-pub record Decided (sa sb sc sd : Bool) (A B C D : ℕ) (a b c d X Y : Float) : Type 0 where
+abbrev pub threshold : Float → Float → Float
+threshold = thresholdBy filterConstant
+
+pub record Decided (sa sb sc sd : Bool) (A B C D : ℕ) (a b c d X Y E : Float) : Type 0 where
   pub first-real : Real binary64 (mul binary64 a d)
   pub second-real : Real binary64 (mul binary64 b c)
   pub d-real : Real binary64 (difference a b c d)
-  pub e-real : Real binary64 (threshold X Y)
+  pub e-real : Real binary64 E
+  -- a rounded product has the sign of the exact one, and E is not below 0
+  pub first-side : (plus binary64 (mul binary64 a d) ≡ plusOf (unlike sa sd) (mag binary64 (mul binary64 a d)))
+      × (minus binary64 (mul binary64 a d) ≡ minusOf (unlike sa sd) (mag binary64 (mul binary64 a d)))
+  pub second-side : (plus binary64 (mul binary64 b c) ≡ plusOf (unlike sb sc) (mag binary64 (mul binary64 b c)))
+      × (minus binary64 (mul binary64 b c) ≡ minusOf (unlike sb sc) (mag binary64 (mul binary64 b c)))
+  pub e-side : minus binary64 E ≡ 0
   -- "the filter's error bound" in squares of units: each rounded product is within 7 / 2 ^ 54 of X * Y of the exact one, and E, which is
   -- more than the two together, is at least 7.9 / 2 ^ 53 of it
   pub first-error : gap (A * D) (mag binary64 (mul binary64 a d) * 2 ^ 1074) * 2 ^ 54 ≤ 7 * (mag binary64 X * mag binary64 Y)
   pub second-error : gap (B * C) (mag binary64 (mul binary64 b c) * 2 ^ 1074) * 2 ^ 54 ≤ 7 * (mag binary64 X * mag binary64 Y)
-  pub e-least : 79 * (mag binary64 X * mag binary64 Y) ≤ mag binary64 (threshold X Y) * 2 ^ 1074 * (10 * 2 ^ 53)
-  pub above : T (lt (threshold X Y) (difference a b c d))
+  pub e-least : 79 * (mag binary64 X * mag binary64 Y) ≤ mag binary64 E * 2 ^ 1074 * (10 * 2 ^ 53)
+  pub above : T (lt E (difference a b c d))
       → minusOf (unlike sa sd) (A * D) + plusOf (unlike sb sc) (B * C) < plusOf (unlike sa sd) (A * D) + minusOf (unlike sb sc) (B * C)
-  pub below : T (lt (difference a b c d) (neg (threshold X Y)))
+  pub below : T (lt (difference a b c d) (neg E))
       → plusOf (unlike sa sd) (A * D) + minusOf (unlike sb sc) (B * C) < minusOf (unlike sa sd) (A * D) + plusOf (unlike sb sc) (B * C)
 
 -- for differences of coordinates from 2 ^ -k to 2 ^ k
-module _ (k : ℕ) (h : k ≤ 434) (sa sb sc sd : Bool) (A B C D : ℕ) (a b c d X Y : Float)
+module _ (k : ℕ) (h : k ≤ 434) (sa sb sc sd : Bool) (A B C D : ℕ) (a b c d X Y K : Float) (con : Constant K)
     (ra : Sided sa (1022 - k) (suc (1074 + k)) a (rn 53 A)) (rb : Sided sb (1022 - k) (suc (1074 + k)) b (rn 53 B))
     (rc : Sided sc (1022 - k) (suc (1074 + k)) c (rn 53 C)) (rd : Sided sd (1022 - k) (suc (1074 + k)) d (rn 53 D))
     (GX : Greater X a c) (GY : Greater Y b d) where
@@ -160,6 +164,9 @@ module _ (k : ℕ) (h : k ≤ 434) (sa sb sc sd : Bool) (A B C D : ℕ) (a b c d
   second-whole = units-whole sb sc l m l m (970 - (k + k)) b c (rn 53 B) (rn 53 C) rb rc product-grains
 
   -- E
+  abbrev constantUnits : ℕ
+  constantUnits = mag binary64 K
+
   abbrev Qc : ℕ
   Qc = unitsOf constantUnits (mag binary64 X)
 
@@ -172,23 +179,23 @@ module _ (k : ℕ) (h : k ≤ 434) (sa sb sc sd : Bool) (A B C D : ℕ) (a b c d
   e-grains : 921 - k + l ≡ 869 - (k + k) + 1074
   e-grains = omega arith
 
-  cX : Sided false (921 - k) (1026 + k) (mul binary64 filterConstant X) (rn 53 Qc)
+  cX : Sided false (921 - k) (1026 + k) (mul binary64 K X) (rn 53 Qc)
   cX =
-      mul-sided false false 973 1025 l m (921 - k) filterConstant X constantUnits (mag binary64 X) constant-sided XS constant-grains
+      mul-sided false false 973 1025 l m (921 - k) K X constantUnits (mag binary64 X) (con .sided) XS constant-grains
       (1026 + k) (omega arith) (omega arith)
 
   cX-whole : constantUnits * mag binary64 X ≡ Qc * 2 ^ 1074
   cX-whole =
-      units-whole false false 973 1025 l m (921 - k) filterConstant X constantUnits (mag binary64 X) constant-sided XS constant-grains
+      units-whole false false 973 1025 l m (921 - k) K X constantUnits (mag binary64 X) (con .sided) XS constant-grains
 
-  e : Sided false (869 - (k + k)) (1027 + (k + k)) (threshold X Y) (rn 53 QE)
+  e : Sided false (869 - (k + k)) (1027 + (k + k)) (thresholdBy K X Y) (rn 53 QE)
   e =
-      mul-sided false false (921 - k) (1026 + k) l m (869 - (k + k)) (mul binary64 filterConstant X) Y (rn 53 Qc) (mag binary64 Y) cX YS
+      mul-sided false false (921 - k) (1026 + k) l m (869 - (k + k)) (mul binary64 K X) Y (rn 53 Qc) (mag binary64 Y) cX YS
       e-grains (1027 + (k + k)) (omega arith) (omega arith)
 
   e-whole : rn 53 Qc * mag binary64 Y ≡ QE * 2 ^ 1074
   e-whole =
-      units-whole false false (921 - k) (1026 + k) l m (869 - (k + k)) (mul binary64 filterConstant X) Y (rn 53 Qc) (mag binary64 Y) cX YS
+      units-whole false false (921 - k) (1026 + k) l m (869 - (k + k)) (mul binary64 K X) Y (rn 53 Qc) (mag binary64 Y) cX YS
       e-grains
 
   -- D does not overflow
@@ -209,15 +216,21 @@ module _ (k : ℕ) (h : k ≤ 434) (sa sb sc sd : Bool) (A B C D : ℕ) (a b c d
   under : {s : Bool} {x : Float} {n Z : ℕ} → Sided s l m x n → mag binary64 x ≤ Z → n ≤ Z
   under r h = le-trans (le-of-eq (sym (split-mag (r .split)))) h
 
-  constant-least : 8 * 2 ^ 1074 ≤ constantUnits * 2 ^ 53
-  constant-least = lit≤ tt
+  own-side : {w : Bool} {x : Float} {n : ℕ} → Split w binary64 x n 0
+      → (plus binary64 x ≡ plusOf w (mag binary64 x)) × (minus binary64 x ≡ minusOf w (mag binary64 x))
+  own-side {w} {x} {n} r =
+      let (p, m) = split-parts w x n r in
+      (p ∙ ap (plusOf w) (sym (split-mag r)), m ∙ ap (minusOf w) (sym (split-mag r)))
 
-  pub decide : Decided sa sb sc sd A B C D a b c d X Y
+  pub decide : Decided sa sb sc sd A B C D a b c d X Y (thresholdBy K X Y)
   decide = record {
     first-real = first .split .real;
     second-real = second .split .real;
     d-real = difference-parts v w (mul binary64 a d) (mul binary64 b c) (rn 53 Q1) (rn 53 Q2) (first .split) (second .split) room .real;
     e-real = e .split .real;
+    first-side = own-side (first .split);
+    second-side = own-side (second .split);
+    e-side = e .split .other;
     first-error = subst (λ (n : ℕ). gap (A * D) (n * 2 ^ 1074) * 2 ^ 54 ≤ 7 * (mag binary64 X * mag binary64 Y)) (sym (split-mag (first .split)))
         (rounded-error (2 ^ 1074) A D (mag binary64 X) (mag binary64 Y) Q1 first-whole (under ra (GX .first)) (under rd (GY .second)));
     second-error = subst (λ (n : ℕ). gap (B * C) (n * 2 ^ 1074) * 2 ^ 54 ≤ 7 * (mag binary64 X * mag binary64 Y)) (sym (split-mag (second .split)))
@@ -225,22 +238,22 @@ module _ (k : ℕ) (h : k ≤ 434) (sa sb sc sd : Bool) (A B C D : ℕ) (a b c d
         (le-of-eq (ap (λ (z : ℕ). 7 * z) (mul-comm (mag binary64 Y) (mag binary64 X)))));
     e-least = subst (λ (n : ℕ). 79 * (mag binary64 X * mag binary64 Y) ≤ n * 2 ^ 1074 * (10 * 2 ^ 53)) (sym (split-mag (e .split)))
         (threshold-least constantUnits (mag binary64 X) (mag binary64 Y) (2 ^ 1074) Qc (rn 53 Qc) QE (rn 53 QE) (pow-pos 1074)
-        constant-least cX-whole (rn-error 53 Qc (zero-lt-suc 52)) e-whole (rn-error 53 QE (zero-lt-suc 52)));
+        (con .least) cX-whole (rn-error 53 Qc (zero-lt-suc 52)) e-whole (rn-error 53 QE (zero-lt-suc 52)));
     above = λ t. filter (2 ^ 1074) (pow-pos 1074) v w A B C D (mag binary64 X) (mag binary64 Y) Q1 Q2 constantUnits Qc (rn 53 Qc)
         QE (rn 53 QE) (plusOf v (rn 53 Q1) + minusOf w (rn 53 Q2) - (minusOf v (rn 53 Q1) + plusOf w (rn 53 Q2))) first-whole second-whole
         (under ra (GX .first)) (under rc (GX .second)) (under rb (GY .first)) (under rd (GY .second))
-        constant-least cX-whole refl e-whole refl refl
+        (con .least) cX-whole refl e-whole refl refl
         (difference-above v w (mul binary64 a d) (mul binary64 b c) (rn 53 Q1) (rn 53 Q2) (first .split) (second .split) room
-        (threshold X Y) (rn 53 QE) (e .split) t);
+        (thresholdBy K X Y) (rn 53 QE) (e .split) t);
     below = λ t. turned v w (filter (2 ^ 1074) (pow-pos 1074) w v C D A B (mag binary64 X) (mag binary64 Y) Q2 Q1
         constantUnits Qc (rn 53 Qc) QE (rn 53 QE)
         (minusOf v (rn 53 Q1) + plusOf w (rn 53 Q2) - (plusOf v (rn 53 Q1) + minusOf w (rn 53 Q2)))
         (mul-comm (rn 53 C) (rn 53 B) ∙ second-whole) (mul-comm (rn 53 D) (rn 53 A) ∙ first-whole)
         (under rc (GX .second)) (under ra (GX .first)) (under rd (GY .second)) (under rb (GY .first))
-        constant-least cX-whole refl e-whole refl
+        (con .least) cX-whole refl e-whole refl
         (swapped (plusOf v (rn 53 Q1)) (minusOf v (rn 53 Q1)) (plusOf w (rn 53 Q2)) (minusOf w (rn 53 Q2)))
         (difference-below v w (mul binary64 a d) (mul binary64 b c) (rn 53 Q1) (rn 53 Q2) (first .split) (second .split) room
-        (threshold X Y) (rn 53 QE) (e .split) t));
+        (thresholdBy K X Y) (rn 53 QE) (e .split) t));
   }
     where
       swapped : (m n p q : ℕ) → n + p - (m + q) ≡ p + n - (q + m)

@@ -22,7 +22,7 @@ use lib.Ieee.Positive.{num, den}
 use lib.Ieee.Bits.{ofBits-toBits}
 use Rattle.double.specs.Worth.{signBit, mag, plus, minus, ofUnits}
 use Rattle.double.proofs.Laws.Digits.{cut, ulp, Rep, rep-of}
-use Rattle.double.proofs.Laws.Rounding.{rn, rn-fixed}
+use Rattle.double.proofs.Laws.Rounding.{rn, rn-kept}
 
 -- x is a finite value of the format
 pub record Real (f : Format) (x : Float) : Type 0 where
@@ -220,7 +220,7 @@ ofUnits-own f x r =
     let s = signBit x in
     let n = mag f x in
     let l = 2 ^ low f in
-    let e : rn (prec f) n ≡ n = rn-fixed (prec f) (mag-rep f x r) in
+    let e : rn (prec f) n ≡ n = rn-kept (prec f) (mag-rep f x r) in
     let v : HasValue (ofUnits f s n) s (rn (prec f) n) l = ofUnits-value f s n (lt-of-le-of-lt (le-of-eq e) (mag-lt f x r)) in
     value-unique f (ofUnits f s n) x (record { fin = value-finite (ofUnits f s n) s (rn (prec f) n) l v; fit = ofUnits-fits f s n }) r
     (value-signBit (ofUnits f s n) s (rn (prec f) n) l v) (value-mag f (ofUnits f s n) s (rn (prec f) n) v ∙ e)

@@ -17,7 +17,7 @@ use Rattle.whole.specs.Order.{_≤ᶻ_, _<ᶻ_}
 use Rattle.whole.proofs.Laws.Parts.{up, dn, add-parts, ≤-parts, <-parts, ≡-parts}
 use Rattle.double.specs.Worth.{signBit, mag, plus, minus, worth, ofUnits, doubleOf}
 use Rattle.double.proofs.Laws.Digits.{Rep}
-use Rattle.double.proofs.Laws.Rounding.{rn, rn-fixed}
+use Rattle.double.proofs.Laws.Rounding.{rn, rn-kept}
 use Rattle.double.proofs.Laws.Compare.{lt-is, le-is, eq-is}
 use Rattle.double.proofs.Laws.Units.{Real, value-mag, value-signBit, value-finite}
 use Rattle.double.proofs.Laws.Units.{ofUnits-fits, ofUnits-value, ofUnits-own}
@@ -169,8 +169,8 @@ made f s n e h =
 
 from-made : (f : Format) (w : ℤ) → Rep (prec f) (natAbs w) → natAbs w < overflow f
     → Real f (from f w) × (signed (signBit (from f w)) (mag f (from f w)) ≡ w)
-from-made f (pos n) r h = made f false n (rn-fixed (prec f) r) h
-from-made f (negsuc n) r h = made f true (suc n) (rn-fixed (prec f) r) h
+from-made f (pos n) r h = made f false n (rn-kept (prec f) r) h
+from-made f (negsuc n) r h = made f true (suc n) (rn-kept (prec f) r) h
 
 pub doubleOf-real : (w : ℤ) → Rep (prec binary64) (natAbs w) → natAbs w < overflow binary64 → Real binary64 (doubleOf w)
 doubleOf-real w r h = subst (λ (x : Float). Real binary64 x) (sym (doubleOf-is w)) (from-made binary64 w r h .0)

@@ -1,26 +1,27 @@
--- The edges of a zone. In order: edge k of a flat list of corners, and how many there are; a value between two ends; one of two finite
--- values is at most the other or above it; a point on an edge, and how an edge counts, by the comparisons and the sign.
+-- The edges of a zone. In order: edge k of a flat list of corners, and how many there are; a value between two ends; a point on an edge, and how an edge counts, by the comparisons and the sign.
 -- Not here: all edges together (`Zone`), the sign itself (`Side`). Assumes nothing.
-use mathlib.Core.Path.{_≡_, refl, sym, ap, ap₂, _∙_, subst}
+use mathlib.Core.Path.{_≡_, refl, sym, ap, ap₂, _∙_}
 use mathlib.Core.Bool.{Bool, true, false, not, cond, _&&_, _||_}
 use mathlib.Core.List.{List, [], _∷_}
 use Prim.Native.Nat.{ℕ, zero, suc, _+_, _*_, _<_}
 use native.Mathlib.Numerals.{add-one}
 use native.Mathlib.Omega.{arith}
-use lib.Dec.{T, leb, ltb}
+use lib.Dec.{ltb}
 use lib.IntN.{ℤ, pos, negsuc}
 use lib.ListN.{length, drop, getD}
-use lib.Ieee.{Float, Format, nan, lt, le}
-use borrow.Author.Tests.{ltb-true, ltb-false, leb-true, leb-false, lt-ltb, le-ltb}
+use lib.Ieee.{Float, nan, lt, le}
+use borrow.Author.Tests.{ltb-true, ltb-false}
 use Rattle.point.specs.declared.Point.{Point}
 use Rattle.whole.specs.Sign.{sgn}
-use Rattle.double.specs.Worth.{plus, minus}
-use Rattle.double.proofs.Laws.Units.{Real}
-use Rattle.double.proofs.Laws.Compare.{lt-is, le-is}
+use Rattle.double.proofs.Laws.Compare.{above-finite}
+use Rattle.point.specs.Accepted.{reach}
+use Rattle.point.proofs.Laws.Accepted.{accepted-finite}
 use Rattle.sum.specs.Total.{signNumber}
 use Rattle.sum.specs.declared.answer.Sign.{Sign}
+use Rattle.geometry.specs.Side.{Accepted}
+use Rattle.geometry.specs.Parts.{InBox, Rises, Falls}
 use Rattle.geometry.specs.Zone.{cornersOf, Edge, edge, edgesFrom, edgesOf, cornerAt, nextOf}
-use Rattle.geometry.specs.Zone.{isZero, isPositive, isNegative, sideOfEdge, between, straddling, onEdge, isUp, isDown, crossingOf}
+use Rattle.geometry.specs.Zone.{isZero, isPositive, isNegative, sideOfEdge, between, onEdge, isUp, isDown, crossingOf}
 use Rattle.geometry.specs.declared.edges.Crossing.{Crossing}
 use Rattle.geometry.specs.declared.edges.Crossing.the-variants.{None, Up, Down}
 
@@ -114,26 +115,6 @@ module _ (a b v : Float) where
   pub between-not : (le a v && le v b) ≡ false → le b v ≡ false → false ≡ between a b v
   between-not h k = sym (ap₂ (λ (p q : Bool). p || (q && le v a)) h k)
 
-  pub past-up : le a v ≡ true → lt v b ≡ true → true ≡ straddling a b v
-  past-up h k = rw (h, k)
-
-  pub past-down : (le a v && lt v b) ≡ false → le b v ≡ true → lt v a ≡ straddling a b v
-  past-down h k = sym (ap₂ (λ (p q : Bool). p || (q && lt v a)) h k)
-
-  pub past-not : (le a v && lt v b) ≡ false → le b v ≡ false → false ≡ straddling a b v
-  past-not h k = sym (ap₂ (λ (p q : Bool). p || (q && lt v a)) h k)
-
--- of two finite values, one is at most the other or above it
-pub above-is : (f : Format) (x y : Float) → Real f x → Real f y → lt y x ≡ not (le x y)
-above-is f x y u v = lt-is f y x v u ∙ turned (plus f x + minus f y) (plus f y + minus f x) ∙ ap not (sym (le-is f x y u v))
-  where
-    turned : (m n : ℕ) → ltb n m ≡ not (leb m n)
-    turned m n = go (leb m n) refl
-      where
-        go : (b : Bool) → leb m n ≡ b → ltb n m ≡ not b
-        go true e = le-ltb n m (leb-true m n e)
-        go false e = lt-ltb n m (leb-false m n e)
-
 -- ---- an edge, by its sign
 sgn-zero : (z : ℤ) → isZero (sgn z) ≡ isZero z
 unfolding sgn
@@ -180,13 +161,12 @@ first-decides z true b c e h k = rw (h, k) e
 first-decides z false b c e h k = e
 
 module _ (e : Edge) (p : Point) (s : Sign) (told : signNumber s ≡ sgn (sideOfEdge e p)) where
-  pub edge-met : between (e .from .x) (e .to .x) (p .x) ≡ true → between (e .from .y) (e .to .y) (p .y) ≡ true
-      → isZero (signNumber s) ≡ onEdge e p
+  pub edge-met : InBox e p → isZero (signNumber s) ≡ onEdge e p
   unfolding onEdge
-  edge-met h k =
+  edge-met b =
       let z = sideOfEdge e p in
       first-decides (isZero (signNumber s)) (isZero z) (between (e .from .x) (e .to .x) (p .x)) (between (e .from .y) (e .to .y) (p .y))
-      (ap isZero told ∙ sgn-zero z) h k
+      (ap isZero told ∙ sgn-zero z) (b .x) (b .y)
 
 -- ---- how an edge counts
 abbrev crossed : Bool → Bool → Bool → Bool → Bool → Bool → Crossing
@@ -211,20 +191,11 @@ module _ (a b c d e f : Bool) where
   crossed-over : a ≡ false → d ≡ false → None ≡ crossed a b c d e f
   crossed-over h k = rw (h, k)
 
--- an edge that is not past y counts neither way
-not-past : (a b : Bool) → (a || b) ≡ false → (c f : Bool) → None ≡ cond (a && c) Up (cond (b && f) Down None)
-not-past true b h c f = absurd (subst T h tt)
-not-past false true h c f = absurd (subst T h tt)
-not-past false false h c f = refl
-
-pub crossing-beside : (e : Edge) (p : Point) → straddling (e .from .y) (e .to .y) (p .y) ≡ false → None ≡ crossingOf e p
-unfolding isUp isDown
-crossing-beside e p h =
-    not-past (le (e .from .y) (p .y) && lt (p .y) (e .to .y)) (le (e .to .y) (p .y) && lt (p .y) (e .from .y)) h
-    (isPositive (sideOfEdge e p)) (isNegative (sideOfEdge e p))
-
 -- an edge whose start is at most y does not go down past y: y is then not below that start
-module _ (e : Edge) (p : Point) (order : lt (p .y) (e .from .y) ≡ not (le (e .from .y) (p .y))) where
+module _ (e : Edge) (p : Point) (a : Accepted (e .from)) (q : Accepted p) where
+  order : lt (p .y) (e .from .y) ≡ not (le (e .from .y) (p .y))
+  order = above-finite (e .from .y) (p .y) (accepted-finite reach (e .from .y) (a .y)) (accepted-finite reach (p .y) (q .y))
+
   pub crossing-under : le (e .from .y) (p .y) ≡ true → lt (p .y) (e .to .y) ≡ false → None ≡ crossingOf e p
   unfolding isUp isDown
   crossing-under h k =
@@ -242,22 +213,20 @@ module _ (e : Edge) (p : Point) (order : lt (p .y) (e .from .y) ≡ not (le (e .
       h k
 
   module _ (s : Sign) (told : signNumber s ≡ sgn (sideOfEdge e p)) where
-    pub crossing-rising : le (e .from .y) (p .y) ≡ true → lt (p .y) (e .to .y) ≡ true
-        → cond (isPositive (signNumber s)) Up None ≡ crossingOf e p
+    pub crossing-rising : Rises e p → cond (isPositive (signNumber s)) Up None ≡ crossingOf e p
     unfolding isUp isDown
-    crossing-rising h k =
+    crossing-rising g =
         let z = sideOfEdge e p in
         ap (λ (b : Bool). cond b Up None) (ap isPositive told ∙ sgn-positive z)
         ∙ crossed-rising (le (e .from .y) (p .y)) (lt (p .y) (e .to .y)) (isPositive z)
         (le (e .to .y) (p .y)) (lt (p .y) (e .from .y)) (isNegative z)
-        h k (order ∙ ap not h)
+        (g .from) (g .to) (order ∙ ap not (g .from))
 
-    pub crossing-falling : le (e .from .y) (p .y) ≡ false → le (e .to .y) (p .y) ≡ true
-        → cond (isNegative (signNumber s)) Down None ≡ crossingOf e p
+    pub crossing-falling : Falls e p → cond (isNegative (signNumber s)) Down None ≡ crossingOf e p
     unfolding isUp isDown
-    crossing-falling h k =
+    crossing-falling g =
         let z = sideOfEdge e p in
         ap (λ (b : Bool). cond b Down None) (ap isNegative told ∙ sgn-negative z)
         ∙ crossed-falling (le (e .from .y) (p .y)) (lt (p .y) (e .to .y)) (isPositive z)
         (le (e .to .y) (p .y)) (lt (p .y) (e .from .y)) (isNegative z)
-        h k (order ∙ ap not h)
+        (g .from) (g .to) (order ∙ ap not (g .from))

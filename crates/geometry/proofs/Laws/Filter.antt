@@ -1,25 +1,28 @@
--- Stages 1 and 2 of a side, for points whose coordinates lie within the reach. In order: what each answer says of the tests; the facts of
--- the filter; the rule's answer is never wrong; each answer by the tests before it; a rounded difference of coordinates against 001's two
--- bounds. Not here: why a D above E is decided (`Orientation` of crate double). Assumes nothing.
+-- Stages 1 and 2 of a side, for points whose coordinates lie within the reach. In order: what each answer says of the tests; the constant
+-- is large enough; the facts of the filter, its error bound among them; the rule's answer is never wrong; each answer by the tests before
+-- it; a rounded difference of coordinates against 001's two bounds. Not here: why the bound holds and a D above E is decided (`Orientation`
+-- of crate double). Assumes nothing.
 use mathlib.Core.Path.{_≡_, refl, sym, ap, ap₂, _∙_}
 use mathlib.Core.Bool.{Bool, true, false, _||_, cond}
 use mathlib.Core.Logic.{_⊎_, inl, inr}
 use Prim.Native.Nat.{ℕ, _*_, _^_, _≤_, _<_}
-use native.Mathlib.Nat.{lt-of-lt-of-le, lt-of-le-of-lt, mul-le-mul-right}
+use native.Mathlib.Nat.{lt-of-lt-of-le, lt-of-le-of-lt, mul-le-mul-right, dvd-of-mod-eq-zero}
 use native.Mathlib.Omega.{arith}
 use lib.Dec.{T, lit≤, lit<}
 use lib.IntN.{pos}
-use lib.Ieee.{Float, binary64, ofBits, sub, neg, lt, eq}
+use lib.Ieee.{Float, binary64, ofBits, sub, neg, lt, eq, fits}
 use Rattle.whole.specs.Order.{_<ᶻ_}
 use Rattle.double.specs.Worth.{mag, plus0}
 use Rattle.double.proofs.Laws.Sized.{Reach, sub-range}
 use Rattle.double.proofs.Laws.Greater.{greater-of, zero-test}
+use Rattle.double.proofs.Laws.Threshold.{Constant}
 use Rattle.double.proofs.Laws.Orientation.{Filtered, filtered-farther}
 use Rattle.point.specs.declared.Point.{Point}
 use Rattle.point.specs.Accepted.{reach, magnitudeOf}
 use Rattle.sum.specs.declared.answer.Sign.the-variants.{Minus, Zero, Plus}
 use Rattle.geometry.specs.Determinant.{determinant}
-use Rattle.geometry.specs.Filter.{greater, spanOf, thresholdOf, differenceOf, clearBy, filterBy, filterOf, FilterSays}
+use Rattle.geometry.specs.Filter.{filterConstant, greater, spanOf, xSpanOf, ySpanOf, thresholdOf, differenceOf}
+use Rattle.geometry.specs.Filter.{clearBy, filterBy, filterOf, FilterSays}
 use Rattle.geometry.specs.declared.filter.Early.{Early}
 use Rattle.geometry.specs.declared.filter.Early.the-variants.{Level, Clear, Open}
 use Rattle.geometry.proofs.Laws.Product.{Within}
@@ -59,13 +62,29 @@ tested-zero false false true b e = never (cc)
 tested-zero false false false true e = never (cc)
 tested-zero false false false false e = never (cc)
 
+-- ---- the constant: at least 8 / 2 ^ 53, so that E is above the error bound
+constant-least : 8 * 2 ^ 1074 ≤ mag binary64 filterConstant * 2 ^ 53
+unfolding ofBits
+constant-least = lit≤ tt
+
+constant : Constant filterConstant
+unfolding ofBits
+constant = record {
+  least = constant-least;
+  sided = record {
+    split = record { real = record { fin = tt; fit = unfold fits in tt }; same = refl; other = refl };
+    grain = dvd-of-mod-eq-zero (2 ^ 973) refl;
+    most = lit≤ tt;
+  };
+}
+
 -- ---- the filter of three points
 module _ (p q r : Point) (P : Within reach p) (Q : Within reach q) (R : Within reach r) where
   abbrev X : Float
-  X = spanOf (q .x) (r .x) (p .x)
+  X = xSpanOf p q r
 
   abbrev Y : Float
-  Y = spanOf (q .y) (r .y) (p .y)
+  Y = ySpanOf p q r
 
   abbrev D : Float
   D = differenceOf p q r
@@ -73,17 +92,17 @@ module _ (p q r : Point) (P : Within reach p) (Q : Within reach q) (R : Within r
   abbrev E : Float
   E = thresholdOf X Y
 
-  -- every value on the way is finite, and what each test says of the determinant
-  filter-facts : Filtered (p .x) (p .y) (q .x) (q .y) (r .x) (r .y) X Y
+  -- every value on the way is finite, the error bound, and what each test says of the determinant
+  filter-facts : Filtered (p .x) (p .y) (q .x) (q .y) (r .x) (r .y) X Y E
   unfolding magnitudeOf ofBits
-  filter-facts = filtered-farther reach (p .x) (p .y) (q .x) (q .y) (r .x) (r .y) (lit≤ tt) (P .x) (P .y) (Q .x) (Q .y) (R .x) (R .y)
+  filter-facts =
+      filtered-farther reach (p .x) (p .y) (q .x) (q .y) (r .x) (r .y) filterConstant constant (lit≤ tt)
+      (P .x) (P .y) (Q .x) (Q .y) (R .x) (R .y)
 
   positive : T (lt E D) → pos 0 <ᶻ determinant p q r
-  unfolding ofBits
   positive t = filter-facts .positive t
 
   negative : T (lt D (neg E)) → determinant p q r <ᶻ pos 0
-  unfolding ofBits
   negative t = filter-facts .negative t
 
   level : T (eq X plus0) ⊎ T (eq Y plus0) → determinant p q r ≡ pos 0
@@ -105,6 +124,8 @@ module _ (p q r : Point) (P : Within reach p) (Q : Within reach q) (R : Within r
       let own : f ≡ tested (eq X plus0) (eq Y plus0) (lt E D) (lt D (neg E)) = e ∙ ap₂ (λ (a b : Float). filterBy D a b) ex ey in
       record {
         answer = rule-is own;
+        near = (filter-facts .near-above, filter-facts .near-below);
+        enough = filter-facts .e-enough;
         level = λ g. level (tested-level (eq X plus0) (eq Y plus0) (lt E D) (lt D (neg E)) (sym own ∙ g));
         plus = λ g. positive (tested-plus (eq X plus0) (eq Y plus0) (lt E D) (lt D (neg E)) (sym own ∙ g));
         minus = λ g. negative (tested-minus (eq X plus0) (eq Y plus0) (lt E D) (lt D (neg E)) (sym own ∙ g));
@@ -119,8 +140,8 @@ module _ (p q r : Point) (P : Within reach p) (Q : Within reach q) (R : Within r
 pub filter-clear : {A : Type 0} (p q r : Point) → filterOf p q r ≡ Clear Zero → A
 unfolding filterOf
 filter-clear p q r e =
-    let X : Float = spanOf (q .x) (r .x) (p .x) in
-    let Y : Float = spanOf (q .y) (r .y) (p .y) in
+    let X : Float = xSpanOf p q r in
+    let Y : Float = ySpanOf p q r in
     let D : Float = differenceOf p q r in
     tested-zero (eq X plus0) (eq Y plus0) (lt (thresholdOf X Y) D) (lt D (neg (thresholdOf X Y))) e
 

@@ -1,6 +1,5 @@
 -- What a side and a zone can come to, for callers that go by cases: what holds of every answer and of these refusals holds of the call.
 -- In order: refusal 3 or an answer; a side; a zone; the numbers of their refusals. Assumes nothing.
-use mathlib.Core.Path.{_≡_}
 use mathlib.Core.Bool.{Bool, true, false, cond}
 use mathlib.Core.List.{List, [], _∷_}
 use Prim.Native.Nat.{ℕ, _+_, _/_, _%_, _≤_}
@@ -9,11 +8,12 @@ use lib.Dec.{eqb, ltb}
 use lib.ListN.{length}
 use lib.Ieee.{Float}
 use Rattle.double.specs.Outcome.{Outcome, answers, refuses, tooMany, notAccepted, tooFewCorners, oddLength}
+use Rattle.double.specs.Search.{passingFrom}
 use Rattle.double.specs.declared.refusal.Refusal.{Refusal}
 use Rattle.point.specs.declared.Point.{Point}
 use Rattle.point.specs.Accepted.{acceptedOf, acceptingFrom}
-use Rattle.geometry.specs.Side.{Turned, turnOf, sideOf, said}
-use Rattle.geometry.specs.Zone.{Lies, fewest, most, cornersOf, edgesOf, placeOf, zoneOf, zoneSaid}
+use Rattle.geometry.specs.Side.{Turned, turnOf, sixOf, sideOf, said, SideSays}
+use Rattle.geometry.specs.Zone.{Lies, ZoneSays, fewest, most, cornersOf, edgesOf, placeOf, zoneOf, zoneSaid}
 use Rattle.geometry.specs.declared.answer.Side.the-variants.{Refused as SideRefused}
 use Rattle.geometry.specs.declared.answer.Zone.the-variants.{Refused as ZoneRefused}
 
@@ -23,7 +23,7 @@ cond-holds P false x y h k = k
 
 accepting-outcomes : {A : Type 0} (P : Outcome A → Type 0) (a : A) → P (answers a) → ((place : ℕ) → P (refuses notAccepted place))
     → (i : ℕ) (xs : List Float) → P (acceptingFrom i xs a)
-unfolding acceptingFrom
+unfolding passingFrom
 accepting-outcomes P a answered refused i [] = answered
 accepting-outcomes P a answered refused i (x ∷ xs) =
     cond-holds P (acceptedOf x) (acceptingFrom (i + 1) xs a) (refuses notAccepted i)
@@ -34,7 +34,7 @@ pub side-outcomes : (P : Outcome Turned → Type 0) → ((t : Turned) → P (ans
     → (p q r : Point) → P (sideOf p q r)
 unfolding sideOf
 side-outcomes P answered refused p q r =
-    accepting-outcomes P (turnOf p q r) (answered (turnOf p q r)) refused 0 (p .x ∷ p .y ∷ q .x ∷ q .y ∷ r .x ∷ r .y ∷ [])
+    accepting-outcomes P (turnOf p q r) (answered (turnOf p q r)) refused 0 (sixOf p q r)
 
 -- "Zone 5, 4, 1, then 3"
 pub zone-outcomes : (P : Outcome Lies → Type 0) → ((place : Lies) → P (answers place)) → P (refuses oddLength 0) → P (refuses tooFewCorners 0)
@@ -58,14 +58,14 @@ Tabled (refuses n place) = n ≤ 9
 side-tabled : (p q r : Point) → Tabled (sideOf p q r)
 side-tabled p q r = side-outcomes (λ (o : Outcome Turned). Tabled o) (λ t. tt) (λ place. omega arith) p q r
 
-pub side-refusal : (n : Refusal) (p q r : Point) → said (SideRefused n) ≡ sideOf p q r → n .number ≤ 9
+pub side-refusal : (n : Refusal) (p q r : Point) → SideSays p q r (SideRefused n) → n .number ≤ 9
 unfolding said
-side-refusal n p q r e = rw (← e) at (side-tabled p q r)
+side-refusal n p q r e = rw (← e .answer) at (side-tabled p q r)
 
 zone-tabled : (corners : List Float) (p : Point) → Tabled (zoneOf corners p)
 zone-tabled corners p =
     zone-outcomes (λ (o : Outcome Lies). Tabled o) (λ place. tt) (omega arith) (omega arith) (omega arith) (λ place. omega arith) corners p
 
-pub zone-refusal : (n : Refusal) (corners : List Float) (p : Point) → zoneSaid (ZoneRefused n) ≡ zoneOf corners p → n .number ≤ 9
+pub zone-refusal : (n : Refusal) (corners : List Float) (p : Point) → ZoneSays corners p (ZoneRefused n) → n .number ≤ 9
 unfolding zoneSaid
 zone-refusal n corners p e = rw (← e) at (zone-tabled corners p)

@@ -1,25 +1,24 @@
 -- The side of a point. In order: the sign is the determinant's, whatever stage tells it; the stage and the steps; which coordinate is
 -- refused, and that otherwise the turn is answered; no two results satisfy the promise of `side`.
 -- Not here: why stages 1 and 2 are right (`Filter`), and stage 3 (`Exact`). Assumes nothing.
-use mathlib.Core.Path.{_≡_, refl, sym, ap, ap₂, _∙_}
+use mathlib.Core.Path.{_≡_, refl, sym, ap, ap₂, _∙_, subst}
 use mathlib.Core.Bool.{Bool, true, false, not}
 use Prim.Native.Nat.{ℕ, _≤_, _<_, zero-le}
 use native.Mathlib.Nat.{lt-irrefl}
 use Rattle.whole.specs.Sign.{sgn}
 use Rattle.whole.proofs.Laws.Sign.{sgn-positive, sgn-zero, sgn-negative}
 use Rattle.double.specs.Outcome.{answers, refuses, notAccepted, Fixes}
+use Rattle.double.specs.Search.{passingFrom}
 use Rattle.double.proofs.Laws.Outcome.{refuses-once}
 use Rattle.point.specs.declared.Point.{Point}
-use Rattle.point.specs.Accepted.{reach, acceptedOf, acceptingFrom}
+use Rattle.point.specs.Accepted.{reach, acceptedOf}
 use Rattle.sum.specs.Total.{signNumber}
 use Rattle.sum.specs.declared.answer.Sign.{Sign}
 use Rattle.sum.specs.declared.answer.Sign.the-variants.{Minus, Zero, Plus}
-use Rattle.sum.proofs.Laws.Runs.{ran-steps-most}
 use Rattle.sum.proofs.Laws.Running.{sign-once}
 use Rattle.geometry.specs.Determinant.{determinant}
 use Rattle.geometry.specs.Filter.{filterOf, FilterSays}
-use Rattle.geometry.specs.Product.{summandsOf}
-use Rattle.geometry.specs.Side.{Turned, mostSteps, exactOf, byStage, turnOf, turnSaid, said, sideOf, Accepted}
+use Rattle.geometry.specs.Side.{Turned, mostSteps, exactOf, byStage, turnOf, turnSaid, said, sideOf, SideSays, Accepted}
 use Rattle.geometry.specs.declared.answer.Turn.{Turn}
 use Rattle.geometry.specs.declared.answer.Side.{Side}
 use Rattle.geometry.specs.declared.answer.Side.the-variants.{Of, Refused}
@@ -27,7 +26,7 @@ use Rattle.geometry.specs.declared.filter.Early.{Early}
 use Rattle.geometry.specs.declared.filter.Early.the-variants.{Level, Clear, Open}
 use Rattle.geometry.proofs.Laws.Product.{Within}
 use Rattle.geometry.proofs.Laws.Filter.{filter-rule, filter-clear}
-use Rattle.geometry.proofs.Laws.Exact.{exact-sign}
+use Rattle.geometry.proofs.Laws.Exact.{exact-sign, exact-steps, exact-stage}
 
 -- ---- the sign
 module _ (p q r : Point) (P : Within reach p) (Q : Within reach q) (R : Within reach r) where
@@ -47,6 +46,16 @@ module _ (p q r : Point) (P : Within reach p) (Q : Within reach q) (R : Within r
   pub turn-said-sign : (t : Turn) → turnSaid t ≡ turnOf p q r → signNumber (t .sign) ≡ sgn (determinant p q r)
   turn-said-sign t e = ap (λ (t : Turned). t .sign) e ∙ turn-sign
 
+  -- "For a side question the count is never above 480"
+  pub turn-steps : turnOf p q r .steps ≤ mostSteps
+  unfolding turnOf
+  turn-steps = go (filterOf p q r)
+    where
+      go : (f : Early) → byStage f (exactOf p q r) .steps ≤ mostSteps
+      go Level = zero-le
+      go (Clear s) = zero-le
+      go Open = exact-steps p q r P Q R
+
 -- ---- the stage and the steps
 module _ (p q r : Point) where
   -- the first stage that tells it
@@ -54,25 +63,15 @@ module _ (p q r : Point) where
   unfolding turnOf
   turn-by e = ap (λ (f : Early). byStage f (exactOf p q r)) e
 
-  -- "For a side question the count is never above 480"
-  pub turn-steps : turnOf p q r .steps ≤ mostSteps
-  unfolding turnOf exactOf
-  turn-steps = go (filterOf p q r)
-    where
-      go : (f : Early) → byStage f (exactOf p q r) .steps ≤ mostSteps
-      go Level = zero-le
-      go (Clear s) = zero-le
-      go Open = ran-steps-most mostSteps (summandsOf p q r)
-
   -- "steps (0 in stages 1 and 2)"
   pub turn-steps-early : turnOf p q r .stage < 3 → turnOf p q r .steps ≡ 0
-  unfolding turnOf exactOf
+  unfolding turnOf
   turn-steps-early = go (filterOf p q r)
     where
       go : (f : Early) → byStage f (exactOf p q r) .stage < 3 → byStage f (exactOf p q r) .steps ≡ 0
       go Level h = refl
       go (Clear s) h = refl
-      go Open h = absurd (lt-irrefl 3 h)
+      go Open h = absurd (lt-irrefl 3 (subst (λ (n : ℕ). n < 3) (exact-stage p q r) h))
 
 -- the code's test of a coordinate
 pub refused-by : {b a : Bool} → b ≡ a → not b ≡ true → a ≡ false
@@ -92,33 +91,33 @@ passed-by {b} e h = sym e ∙ go b h
 -- ---- "Side: 3 only, place 0 to 5 for px, py, qx, qy, rx, ry"
 module _ (p q r : Point) where
   pub side-px : acceptedOf (p .x) ≡ false → refuses notAccepted 0 ≡ sideOf p q r
-  unfolding sideOf acceptingFrom
+  unfolding sideOf passingFrom
   side-px e = rw e
 
   pub side-py : acceptedOf (p .x) ≡ true → acceptedOf (p .y) ≡ false → refuses notAccepted 1 ≡ sideOf p q r
-  unfolding sideOf acceptingFrom
+  unfolding sideOf passingFrom
   side-py a e = rw (a, e)
 
   module _ (P : Accepted p) where
     pub side-qx : acceptedOf (q .x) ≡ false → refuses notAccepted 2 ≡ sideOf p q r
-    unfolding sideOf acceptingFrom
+    unfolding sideOf passingFrom
     side-qx e = rw (P .x, P .y, e)
 
     pub side-qy : acceptedOf (q .x) ≡ true → acceptedOf (q .y) ≡ false → refuses notAccepted 3 ≡ sideOf p q r
-    unfolding sideOf acceptingFrom
+    unfolding sideOf passingFrom
     side-qy a e = rw (P .x, P .y, a, e)
 
     module _ (Q : Accepted q) where
       pub side-rx : acceptedOf (r .x) ≡ false → refuses notAccepted 4 ≡ sideOf p q r
-      unfolding sideOf acceptingFrom
+      unfolding sideOf passingFrom
       side-rx e = rw (P .x, P .y, Q .x, Q .y, e)
 
       pub side-ry : acceptedOf (r .x) ≡ true → acceptedOf (r .y) ≡ false → refuses notAccepted 5 ≡ sideOf p q r
-      unfolding sideOf acceptingFrom
+      unfolding sideOf passingFrom
       side-ry a e = rw (P .x, P .y, Q .x, Q .y, a, e)
 
       pub side-turn : Accepted r → answers (turnOf p q r) ≡ sideOf p q r
-      unfolding sideOf acceptingFrom
+      unfolding sideOf passingFrom
       side-turn R = rw (P .x, P .y, Q .x, Q .y, R .x, R .y)
 
 -- ---- no two results satisfy the promise
@@ -137,5 +136,5 @@ said-once (Of a) (Refused b) e = cc
 said-once (Refused a) (Of b) e = cc
 said-once (Refused a) (Refused b) e = ap Refused (refuses-once a b e)
 
-pub side-fixed : (p q r : Point) → Fixes (λ (s : Side). said s ≡ sideOf p q r)
-side-fixed p q r a b e f = said-once a b (e ∙ sym f)
+pub side-fixed : (p q r : Point) → Fixes (λ (s : Side). SideSays p q r s)
+side-fixed p q r a b e f = said-once a b (e .answer ∙ sym (f .answer))

@@ -1,34 +1,31 @@
--- The twelve summands of stage 3. In order: six pairs that are the six products are the determinant, in whole numbers; the ceiling of a
--- list of doubles that are multiples of 2 ^ g and at most 2 ^ b units; the summands are such doubles, their total is the determinant, and
--- their ceiling, all over the reach k of the coordinates; the same for accepted points, whose reach is 400, and the sign.
+-- The twelve summands of stage 3. In order: six pairs that are the six products are the determinant, in whole numbers; the summands are
+-- doubles of known grain and size, their total is the determinant, and their ceiling, all over the reach k of the coordinates; the same for
+-- accepted points, and the sign.
 -- Not here: one pair (`Product`); what the sum rule makes of the list (sum's `Descent`). Assumes nothing.
 use mathlib.Core.Path.{_≡_, refl, sym, ap, ap₂, _∙_}
-use mathlib.Core.Logic.{_⊎_, inl, inr}
-use mathlib.Core.List.{List, [], _∷_}
-use Prim.Native.Nat.{ℕ, suc, _+_, _-_, _*_, _/_, _^_, _≤_, _<_, _∣_, zero-le}
-use native.Mathlib.Nat.{le-trans, le-of-eq, lt-of-le-of-lt, eq-zero-or-pos, zero-lt-suc}
+use mathlib.Core.List.{[], _∷_}
+use Prim.Native.Nat.{ℕ, _+_, _-_, _*_, _^_, _≤_, _<_}
+use native.Mathlib.Nat.{le-trans, le-of-eq}
 use native.Mathlib.Omega.{arith}
 use lib.Dec.{lit≤}
 use lib.IntN.{ℤ, pos, negℤ, _+ℤ_, _-ℤ_, _*ℤ_, *ℤ-comm}
-use lib.ListN.{length, getD}
-use lib.Pow.{pow-pos, pow-lt, shr-lt}
-use lib.Ieee.{Float, nan, binary64, mul, neg, size}
-use lib.Ieee.Digits.{size-le}
+use lib.ListN.{length}
+use lib.Pow.{pow-pos}
+use lib.Ieee.{Float, binary64, mul, neg}
 use Rattle.whole.specs.Sign.{sgn}
 use Rattle.whole.proofs.Laws.Parts.{pos-<}
 use Rattle.whole.proofs.Laws.Ring.{_:+_, _:-_, _:*_, opp, num, solve}
 use Rattle.whole.proofs.Laws.Sign.{sgn-scale}
-use Rattle.double.specs.Worth.{mag, worth}
-use Rattle.double.proofs.Laws.Units.{Real}
+use Rattle.double.specs.Worth.{worth}
 use Rattle.double.proofs.Laws.Sized.{Sized}
 use Rattle.point.specs.declared.Point.{Point}
 use Rattle.point.specs.Accepted.{reach}
 use Rattle.sum.specs.Total.{totalOf}
 use Rattle.sum.specs.Limit.{divisor}
-use Rattle.sum.specs.Ceiling.{grainOf, roundUp, weightOf, ceilingOf}
-use Rattle.sum.proofs.Laws.Entries.{All, AllReal, all-at, all-of}
-use Rattle.sum.proofs.Laws.Grain.{grain-greatest}
-use Rattle.sum.proofs.Laws.Ceiling.{ceiling-zeros}
+use Rattle.sum.specs.Ceiling.{roundUp, ceilingOf}
+use Rattle.sum.proofs.Laws.Entries.{All, AllReal, all-map}
+use Rattle.sum.proofs.Laws.Ceiling.{ceiling-sized}
+use Rattle.sum.proofs.Laws.Calls.{total-none, total-more}
 use Rattle.geometry.specs.Determinant.{determinant}
 use Rattle.geometry.specs.Product.{unit, roundoffOf, summandsOf}
 use Rattle.geometry.specs.Side.{mostSteps}
@@ -49,6 +46,13 @@ sum-of-pairs =
       (a :+ b) :* u :+ (c :+ d) :* u :+ (e :+ f) :* u :+ (g :+ h) :* u :+ (i :+ j) :* u :+ (k :+ l) :* u,
     )) refl
 
+-- the total of twelve doubles
+total-twelve : (a b c d e f g h i j k l : Float)
+    → totalOf (a ∷ b ∷ c ∷ d ∷ e ∷ f ∷ g ∷ h ∷ i ∷ j ∷ k ∷ l ∷ [])
+    ≡ worth a +ℤ (worth b +ℤ (worth c +ℤ (worth d +ℤ (worth e +ℤ (worth f +ℤ (worth g +ℤ (worth h +ℤ (worth i +ℤ (worth j +ℤ (worth k
+    +ℤ (worth l +ℤ pos 0)))))))))))
+total-twelve a b c d e f g h i j k l = simp (total-more, total-none) refl
+
 -- six products are the determinant: px·py cancels
 six-products : (px py qx qy rx ry : ℤ)
     → qx *ℤ ry +ℤ negℤ qx *ℤ py +ℤ negℤ px *ℤ ry +ℤ negℤ qy *ℤ rx +ℤ qy *ℤ px +ℤ py *ℤ rx
@@ -62,61 +66,6 @@ six-products =
 six-sums : {a b c d e f t u v w x y : ℤ} → a ≡ t → b ≡ u → c ≡ v → d ≡ w → e ≡ x → f ≡ y
     → a +ℤ b +ℤ c +ℤ d +ℤ e +ℤ f ≡ t +ℤ u +ℤ v +ℤ w +ℤ x +ℤ y
 six-sums p q r s t u = cc
-
--- a list is of zeros, or has an entry that is none
-zeros-or-some : (xs : List Float)
-    → All (λ x. mag binary64 x ≡ 0) xs ⊎ ((i : ℕ) × (i < length xs) × (0 < mag binary64 (getD xs i nan)))
-zeros-or-some [] = inl tt
-zeros-or-some (x ∷ xs) = elim (eq-zero-or-pos (mag binary64 x)) [
-  | inl e ↦ elim (zeros-or-some xs) [
-    | inl a ↦ inl (e, a)
-    | inr s ↦ inr (suc (s .0), omega (arith, s .1), s .2)
-  ]
-  | inr h ↦ inr (0, zero-lt-suc (length xs), h)
-]
-
--- ---- doubles that are multiples of 2 ^ g and at most 2 ^ b units
-module _ (g b : ℕ) where
-  abbrev AllSized : List Float → Type 0
-  AllSized xs = All (Sized g b) xs
-
-  sized-real : (xs : List Float) → AllSized xs → AllReal xs
-  sized-real xs a = all-of (Real binary64) xs nan (λ i h. all-at (Sized g b) xs i nan a h .real)
-
-  -- over a grain that is no less, such a double has no more than b + 1 - g digits
-  length-most : (j : ℕ) (x : Float) → g ≤ b → g ≤ j → Sized g b x → size (mag binary64 x / 2 ^ j) ≤ b + 1 - g
-  length-most j x l h r =
-      size-le (mag binary64 x / 2 ^ j) (b + 1 - g) (shr-lt (b + 1 - g) j (lt-of-le-of-lt (r .most) (pow-lt (over b g j l h))))
-    where
-      over : (b g j : ℕ) → g ≤ b → g ≤ j → b < b + 1 - g + j
-      over b g j l h = omega arith
-
-  weight-most : (j : ℕ) → g ≤ b → g ≤ j → (xs : List Float) → AllSized xs
-      → weightOf divisor j xs ≤ length xs * roundUp divisor (b + 1 - g)
-  unfolding weightOf
-  weight-most j l h [] a = zero-le
-  weight-most j l h (x ∷ xs) a =
-      more (size (mag binary64 x / 2 ^ j)) (b + 1 - g) (weightOf divisor j xs) (length xs) (length-most j x l h (a .0))
-      (weight-most j l h xs (a .1))
-    where
-      step : (s t w n : ℕ) → s ≤ t → w ≤ n * t → s + w ≤ suc n * t
-      step s t w n h k = omega arith
-
-      rounded : (z m : ℕ) → z ≤ m → roundUp divisor z ≤ roundUp divisor m
-      rounded z m h = omega arith
-
-      more : (z m w n : ℕ) → z ≤ m → w ≤ n * roundUp divisor m → roundUp divisor z + w ≤ suc n * roundUp divisor m
-      more z m w n h k = step (roundUp divisor z) (roundUp divisor m) w n (rounded z m h) k
-
-  sized-ceiling : g ≤ b → (xs : List Float) → AllSized xs → ceilingOf xs ≤ length xs * roundUp divisor (b + 1 - g)
-  unfolding ceilingOf
-  sized-ceiling l xs a = elim (zeros-or-some xs) [
-    | inl z ↦ le-trans (le-of-eq (ceiling-zeros xs z)) zero-le
-    | inr s ↦
-        weight-most (grainOf xs) l
-        (grain-greatest xs g (sized-real xs a) (all-of (λ x. 2 ^ g ∣ mag binary64 x) xs nan
-        (λ i h. all-at (Sized g b) xs i nan a h .grain)) (s .0) (s .1) (s .2)) xs a
-  ]
 
 -- ---- the twelve summands
 module _ (k : ℕ) (room : k ≤ 485) (p q r : Point) (P : Within k p) (Q : Within k q) (R : Within k r) where
@@ -147,13 +96,14 @@ module _ (k : ℕ) (room : k ≤ 485) (p q r : Point) (P : Within k p) (Q : With
       paired t a = (t .rounded, (t .rest, a))
 
   summands-real-within : AllReal (summandsOf p q r)
-  summands-real-within = sized-real (pairGrain k) (pairMost k) (summandsOf p q r) summands-sized
+  summands-real-within = all-map (λ x r. r .real) (summandsOf p q r) summands-sized
 
   -- in squares of units
   summands-total-within : totalOf (summandsOf p q r) *ℤ unit ≡ determinant p q r
-  unfolding totalOf summandsOf
+  unfolding summandsOf
   summands-total-within =
-      sum-of-pairs
+      ap (λ (z : ℤ). z *ℤ unit) (total-twelve _ _ _ _ _ _ _ _ _ _ _ _)
+      ∙ sum-of-pairs
       (worth (mul binary64 (q .x) (r .y))) (worth (roundoffOf (q .x) (r .y)))
       (worth (mul binary64 (neg (q .x)) (p .y))) (worth (roundoffOf (neg (q .x)) (p .y)))
       (worth (mul binary64 (neg (p .x)) (r .y))) (worth (roundoffOf (neg (p .x)) (r .y)))
@@ -172,7 +122,7 @@ module _ (k : ℕ) (room : k ≤ 485) (p q r : Point) (P : Within k p) (Q : With
 
   summands-ceiling-within : ceilingOf (summandsOf p q r) ≤ 12 * roundUp divisor (105 + 4 * k)
   summands-ceiling-within =
-      le-trans (sized-ceiling (pairGrain k) (pairMost k) (omega arith) (summandsOf p q r) summands-sized)
+      le-trans (ceiling-sized (pairGrain k) (pairMost k) (omega arith) (summandsOf p q r) summands-sized)
       (le-of-eq (ap₂ (λ (n m : ℕ). n * roundUp divisor m) (summands-length p q r) (span k room)))
     where
       span : (k : ℕ) → k ≤ 485 → pairMost k + 1 - pairGrain k ≡ 105 + 4 * k
@@ -191,6 +141,6 @@ module _ (p q r : Point) (P : Within reach p) (Q : Within reach q) (R : Within r
       let t : ℤ = totalOf (summandsOf p q r) in
       sym (sgn-scale unit t (pos-< 0 (2 ^ 1074) .1 (pow-pos 1074))) ∙ ap sgn (*ℤ-comm unit t ∙ summands-total)
 
-  -- 12 times 40: a budget of `mostSteps` is enough
+  -- 12 times 40
   pub summands-ceiling : ceilingOf (summandsOf p q r) ≤ mostSteps
   summands-ceiling = le-trans (summands-ceiling-within reach (lit≤ tt) p q r P Q R) (lit≤ tt)

@@ -1,28 +1,28 @@
 -- All edges of a zone, and its refusals. In order: one more edge in the count, which no edge enters twice; the place off the border; the
--- count and the walk over the edges of a flat list; the search for a coordinate that is not accepted, and what its end says; the refusals
--- in their order; no two results satisfy the promise. Not here: one edge (`Edges`). Assumes nothing.
+-- count and the walk over the edges of a flat list; the refusals in their order; no two results satisfy the promise. Not here: one edge (`Edges`). Assumes nothing.
 use mathlib.Core.Path.{_≡_, refl, sym, ap, ap₂, _∙_, subst}
 use mathlib.Core.Bool.{Bool, true, false, cond, _&&_}
 use mathlib.Core.List.{List, [], _∷_}
 use Prim.Native.Nat.{ℕ, zero, suc, _+_, _*_, _/_, _%_, _≤_, _<_}
-use native.Mathlib.Numerals.{add-one}
 use native.Mathlib.Nat.{le-refl}
 use native.Mathlib.Omega.{arith}
 use lib.Dec.{T, ltb}
 use lib.IntN.{ℤ, pos, negsuc}
-use lib.ListN.{length, drop, getD, length-drop, drop-of-length-le}
-use lib.Seq.{drop-cons}
+use lib.ListN.{length, drop, length-drop, drop-of-length-le}
 use lib.Ieee.{Float, nan, lt, le}
 use borrow.Author.Tests.{ltb-true, lt-ltb, le-ltb, eq-eqb, ne-eqb}
-use Rattle.double.specs.Outcome.{Outcome, answers, refuses, Fixes, tooMany, notAccepted, tooFewCorners, oddLength}
+use Rattle.double.specs.Outcome.{answers, refuses, Fixes, tooMany, notAccepted, tooFewCorners, oddLength}
 use Rattle.double.specs.declared.refusal.Refusal.{Refusal}
+use Rattle.double.specs.Search.{passingFrom, AllPass}
 use Rattle.double.proofs.Laws.Outcome.{refuses-once}
+use Rattle.double.proofs.Laws.Search.{passing-answered, passing-other, failing-other}
 use Rattle.point.specs.declared.Point.{Point}
 use Rattle.point.specs.Accepted.{acceptedOf, acceptingFrom}
 use Rattle.geometry.specs.Side.{Accepted}
 use Rattle.geometry.specs.Zone.{fewest, most, cornersOf, Edge, edge, edgesOf, isPositive, isNegative, sideOfEdge}
 use Rattle.geometry.specs.Zone.{onEdge, isUp, isDown, crossingOf, countOf, Lies, outside, border, inside, parity, walk, placeOf, cornerAt}
-use Rattle.geometry.specs.Zone.{nextOf, withEdge, countsOf, cornersFault, faultSaid, Zoned, placeSaid, zoneSaid, zoneOf}
+use Rattle.geometry.specs.Zone.{nextOf, Zoned, placeSaid, zoneSaid, zoneOf, ZoneSays}
+use Rattle.geometry.specs.Parts.{withEdge, countsOf, cornersFault, faultSaid}
 use Rattle.geometry.specs.declared.edges.Crossing.the-variants.{None, Up, Down}
 use Rattle.geometry.specs.declared.zones.Counts.{Counts}
 use Rattle.geometry.specs.declared.zones.Fault.the-variants.{None as FaultNone, At as FaultAt}
@@ -148,61 +148,6 @@ module _ (xs : List Float) (n : ℕ) (p : Point) (size : length xs ≡ 2 * n) wh
   unfolding walk
   walk-end k h = rw (row-end k h)
 
--- ---- the search for a coordinate that is not accepted; the first entry has place d
-module _ {A : Type 0} (d : ℕ) (xs : List Float) (answer : A) (i : ℕ) where
-  pub accepting-here : i < length xs → acceptedOf (getD xs i nan) ≡ false
-      → acceptingFrom (i + d) (drop i xs) answer ≡ refuses notAccepted (i + d)
-  unfolding acceptingFrom
-  accepting-here h e = rw (drop-cons xs i nan h, e)
-
-  pub accepting-later : i < length xs → acceptedOf (getD xs i nan) ≡ true
-      → acceptingFrom (i + d) (drop i xs) answer ≡ acceptingFrom (i + 1 + d) (drop (i + 1) xs) answer
-  unfolding acceptingFrom
-  accepting-later h e = rw (drop-cons xs i nan h, e) (ap₂ (λ (j k : ℕ). acceptingFrom j (drop k xs) answer) places (sym (add-one i)))
-    where
-      places : i + d + 1 ≡ i + 1 + d
-      places = omega arith
-
-  pub accepting-end : length xs ≤ i → acceptingFrom (i + d) (drop i xs) answer ≡ answers answer
-  unfolding acceptingFrom
-  accepting-end h = rw (drop-of-length-le xs h)
-
--- nothing is found: every entry is accepted
-abbrev faultFrom : ℕ → List Float → Outcome Unit
-faultFrom i xs = acceptingFrom i xs tt
-
-abbrev nothing : Outcome Unit
-nothing = answers tt
-
-accepting-all : (i : ℕ) (xs : List Float) → faultFrom i xs ≡ nothing → (k : ℕ) → k < length xs → acceptedOf (getD xs k nan) ≡ true
-unfolding acceptingFrom
-accepting-all i [] h k l = let z : ⊥ = omega arith in absurd z
-accepting-all i (x ∷ xs) h k l = go (acceptedOf x) refl (λ e. accepting-all (i + 1) xs e) h k l
-  where
-    go : (b : Bool) → acceptedOf x ≡ b
-        → (faultFrom (i + 1) xs ≡ nothing → (k : ℕ) → k < length xs → acceptedOf (getD xs k nan) ≡ true)
-        → cond b (faultFrom (i + 1) xs) (refuses notAccepted i) ≡ nothing
-        → (k : ℕ) → k < suc (length xs) → acceptedOf (getD (x ∷ xs) k nan) ≡ true
-    go true e later h zero l = e
-    go true e later h (suc k) l = later h k (omega arith)
-    go false e later h k l = let z : _≡_ {A = ℕ} 0 1 = cc in let w : ⊥ = omega arith in absurd w
-
--- any other answer is given, or refused, where this one is
-withAnswer : {A : Type 0} → A → Outcome Unit → Outcome A
-withAnswer a (answers u) = answers a
-withAnswer a (refuses n p) = refuses n p
-
-accepting-with : {A : Type 0} (a : A) (i : ℕ) (xs : List Float) → acceptingFrom i xs a ≡ withAnswer a (faultFrom i xs)
-unfolding acceptingFrom withAnswer
-accepting-with a i [] = refl
-accepting-with a i (x ∷ xs) = go (acceptedOf x) (accepting-with a (i + 1) xs)
-  where
-    go : (b : Bool) → acceptingFrom (i + 1) xs a ≡ withAnswer a (faultFrom (i + 1) xs)
-        → cond b (acceptingFrom (i + 1) xs a) (refuses notAccepted i)
-        ≡ withAnswer a (cond b (faultFrom (i + 1) xs) (refuses notAccepted i))
-    go true ih = ih
-    go false ih = refl
-
 -- a zone that is not refused
 pub zone-zoned : (xs : List Float) → (length xs % 2 ≡ 1 → ⊥) → fewest ≤ length xs / 2 → length xs / 2 ≤ most
     → faultSaid FaultNone ≡ cornersFault xs → Zoned xs (length xs / 2)
@@ -212,10 +157,13 @@ zone-zoned xs even some few h = record {
   some = some;
   few = few;
   accepted = λ k l. record {
-    x = accepting-all 2 xs (sym h) (2 * k) (omega arith);
-    y = accepting-all 2 xs (sym h) (2 * k + 1) (omega arith);
+    x = all (2 * k) (omega arith);
+    y = all (2 * k + 1) (omega arith);
   };
 }
+  where
+    all : AllPass acceptedOf nan xs
+    all = passing-answered acceptedOf notAccepted nan tt 2 xs tt (sym h) .0
 
 -- ---- the refusals in their order
 module _ (xs : List Float) (p : Point) where
@@ -242,27 +190,27 @@ module _ (xs : List Float) (p : Point) where
         judged = rw (ne-eqb (length xs % 2) 1 even, le-ltb (length xs / 2) fewest some, le-ltb most (length xs / 2) few)
 
         pub zone-x : acceptedOf (p .x) ≡ false → refuses notAccepted 0 ≡ zoneOf xs p
-        unfolding acceptingFrom
+        unfolding passingFrom
         zone-x h = let e : refuses notAccepted 0 ≡ acceptingFrom 0 (p .x ∷ p .y ∷ xs) placed = rw h in e ∙ judged
 
         pub zone-y : acceptedOf (p .x) ≡ true → acceptedOf (p .y) ≡ false → refuses notAccepted 1 ≡ zoneOf xs p
-        unfolding acceptingFrom
+        unfolding passingFrom
         zone-y h k = let e : refuses notAccepted 1 ≡ acceptingFrom 0 (p .x ∷ p .y ∷ xs) placed = rw (h, k) in e ∙ judged
 
         module _ (point : Accepted p) where
-          corners-judged : withAnswer placed (cornersFault xs) ≡ zoneOf xs p
-          unfolding acceptingFrom
+          corners-judged : acceptingFrom 2 xs placed ≡ zoneOf xs p
+          unfolding passingFrom
           corners-judged =
               let e : acceptingFrom 2 xs placed ≡ acceptingFrom 0 (p .x ∷ p .y ∷ xs) placed = rw (point .x, point .y) in
-              sym (accepting-with placed 2 xs) ∙ e ∙ judged
+              e ∙ judged
 
-          pub zone-corner : (r : Refusal) → faultSaid (FaultAt r) ≡ cornersFault xs → zoneSaid (Refused r) ≡ zoneOf xs p
-          unfolding faultSaid zoneSaid withAnswer
-          zone-corner r h = ap (withAnswer placed) h ∙ corners-judged
+          pub zone-corner : (r : Refusal) → faultSaid (FaultAt r) ≡ cornersFault xs → ZoneSays xs p (Refused r)
+          unfolding faultSaid zoneSaid
+          zone-corner r h = sym (failing-other acceptedOf notAccepted 2 nan xs tt placed (sym h)) ∙ corners-judged
 
-          pub zone-place : faultSaid FaultNone ≡ cornersFault xs → (place : Place) → placeSaid place ≡ placed → zoneSaid (At place) ≡ zoneOf xs p
-          unfolding faultSaid zoneSaid withAnswer
-          zone-place h place e = ap answers e ∙ ap (withAnswer placed) h ∙ corners-judged
+          pub zone-place : faultSaid FaultNone ≡ cornersFault xs → (place : Place) → placeSaid place ≡ placed → ZoneSays xs p (At place)
+          unfolding faultSaid zoneSaid
+          zone-place h place e = ap answers e ∙ sym (passing-other acceptedOf notAccepted 2 nan xs tt placed (sym h)) ∙ corners-judged
 
 -- ---- no two results satisfy the promise
 place-once : (a b : Place) → placeSaid a ≡ placeSaid b → a ≡ b
@@ -284,5 +232,5 @@ said-once (At m) (Refused r) e = cc
 said-once (Refused r) (At n) e = cc
 said-once (Refused r) (Refused q) e = ap Refused (refuses-once r q e)
 
-pub zone-fixed : (xs : List Float) (p : Point) → Fixes (λ (z : Zone). zoneSaid z ≡ zoneOf xs p)
+pub zone-fixed : (xs : List Float) (p : Point) → Fixes (λ (z : Zone). ZoneSays xs p z)
 zone-fixed xs p a b h k = said-once a b (h ∙ sym k)

@@ -13,6 +13,7 @@ use lib.IntN.{ℤ}
 use lib.Pow.{pow-pos}
 use lib.Ieee.{Float, Format, nan, inf, fin, binary64, lt, le, eq, neg, ofBits, fits, size}
 use lib.Ieee.Fits.{and-l, and-r}
+use lib.Ieee.Scale.{finite}
 use Rattle.double.specs.Worth.{mag, plus, minus, signBit}
 use Rattle.double.specs.Outcome.{Fixes}
 use Rattle.double.proofs.Laws.Digits.{dvd-lower, size-gt, rep-dvd}
@@ -20,7 +21,7 @@ use Rattle.double.proofs.Laws.Units.{Real, Parts, mag-rep}
 use Rattle.double.proofs.Laws.Compare.{lt-is, le-is, eq-is}
 use Rattle.double.proofs.Laws.Zero.{plusZero, zero-real, zero-mag}
 use Rattle.double.proofs.Laws.Sum.{neg-plus, neg-minus, neg-real}
-use Rattle.point.specs.Accepted.{acceptedWithin, acceptedOf, reach, magnitudeOf}
+use Rattle.point.specs.Accepted.{acceptedWithin, acceptedOf, AcceptedSays, reach, magnitudeOf}
 
 -- ---- a magnitude lies above 0
 sides : (f : Format) (x : Float) → ((plus f x ≡ mag f x) × (minus f x ≡ 0)) ⊎ ((plus f x ≡ 0) × (minus f x ≡ mag f x))
@@ -134,6 +135,12 @@ accepted-small (inf false) t h = refl
 accepted-small (fin s m e) t h = finite-small s m e t h
 
 -- ---- what the rule means, over the reach k
+pub accepted-finite : (k : ℕ) (x : Float) → acceptedWithin k x ≡ true → T (finite x)
+unfolding acceptedWithin
+accepted-finite k nan h = absurd (subst T (sym h) tt)
+accepted-finite k (inf s) h = absurd (subst T (sym h) tt)
+accepted-finite k (fin s m e) h = tt
+
 pub accepted-real : (k : ℕ) (x : Float) → T (fits binary64 x) → acceptedWithin k x ≡ true → Real binary64 x
 unfolding acceptedWithin
 accepted-real k nan t h = absurd (subst T (sym h) tt)
@@ -173,5 +180,5 @@ accepted-grain k x t h = go (accepted-range k x h)
         (rep-dvd 53 (r .0) (mag-rep binary64 x (accepted-real k x t h)))
 
 -- no two results satisfy the promise
-pub accepted-fixed : (x : Float) → Fixes (λ (r : Bool). r ≡ acceptedOf x)
+pub accepted-fixed : (x : Float) → Fixes (AcceptedSays x)
 accepted-fixed x a b p q = p ∙ sym q

@@ -1,17 +1,17 @@
 -- The ceiling of a list. In order: bit lengths, of a quotient and by a double's parts; what one entry adds, and a list, at most; lists of
--- zeros; the second pass; the answer, and that no two results satisfy the promise.
+-- zeros; entries of a known grain and size; the second pass; the answer, and that no two results satisfy the promise.
 -- Not here: the grain (`Grain`); that every step lowers what a list weighs (`Descent`). Assumes nothing.
 use mathlib.Core.Path.{_≡_, refl, sym, ap, ap₂, _∙_}
 use mathlib.Core.Logic.{_⊎_, inl, inr}
 use mathlib.Core.List.{List, [], _∷_}
 use Prim.Native.Nat.{ℕ, zero, suc, _+_, _-_, _*_, _/_, _^_, _≤_, _<_, zero-le}
-use native.Mathlib.Nat.{le-refl, le-trans, le-of-eq, lt-of-lt-of-le, le-antisymm, le-div-iff-mul-le}
+use native.Mathlib.Nat.{le-refl, le-trans, le-of-eq, lt-of-lt-of-le, lt-of-le-of-lt, le-antisymm, le-div-iff-mul-le, zero-lt-suc, eq-zero-or-pos}
 use native.Mathlib.Nat.{add-zero, add-comm, mul-one, pow-suc, zero-sub, sub-eq-zero-of-le}
 use native.Mathlib.Omega.{arith}
 use lib.Count.{leadingZeros, leading-length}
 use lib.Dec.{lit≤, lit<}
 use lib.ListN.{length, drop, getD, drop-of-length-le}
-use lib.Pow.{pow-add, pow-pos, pow-mono, shr-lt, shr-le}
+use lib.Pow.{pow-add, pow-pos, pow-lt, pow-mono, shr-lt, shr-le}
 use lib.Ieee.{Float, nan, binary64, size}
 use lib.Ieee.Digits.{size-lt, size-reaches, size-le}
 use Rattle.double.specs.Worth.{mag}
@@ -20,17 +20,19 @@ use Rattle.double.specs.declared.refusal.Refusal.{Refusal}
 use Rattle.double.specs.declared.answer.Parts.{Parts}
 use Rattle.double.proofs.Laws.Digits.{size-gt, size-mono, size-scale}
 use Rattle.double.proofs.Laws.Units.{Real, mag-lt}
+use Rattle.double.proofs.Laws.Sized.{Sized}
 use Rattle.double.proofs.Laws.Apart.{Means}
 use Rattle.double.proofs.Laws.Outcome.{refuses-once}
 use Rattle.sum.specs.Limit.{limit, divisor}
 use Rattle.sum.specs.Refused.{found, faultOf}
-use Rattle.sum.specs.Ceiling.{digits, grainOf, roundUp, weightOf, ceilingOf, ceilingSaid, ceilingAnswer}
+use Rattle.sum.specs.Ceiling.{digits, grainOf, roundUp, weightOf, ceilingOf, ceilingSaid, ceilingAnswer, CeilingSays}
 use Rattle.sum.specs.declared.fault.Fault.the-variants.{None, At}
 use Rattle.sum.specs.declared.answer.Ceiling.{Ceiling}
 use Rattle.sum.specs.declared.answer.Ceiling.the-variants.{Steps, Refused}
 use Rattle.sum.proofs.Laws.Refused.{checked-none, checked-at}
-use Rattle.sum.proofs.Laws.Entries.{All, AllReal}
-use Rattle.sum.proofs.Laws.Grain.{parts-mag, drop-before}
+use Rattle.sum.proofs.Laws.Entries.{All, AllReal, all-map}
+use Rattle.sum.proofs.Laws.Grain.{parts-mag, drop-before, grain-greatest}
+use Rattle.sum.proofs.Laws.RoundUp.{round-mono}
 
 -- ---- bit lengths
 -- what is divided by 2 ^ j has j digits fewer
@@ -103,22 +105,30 @@ share-most x j r = rounded (size (mag binary64 x / 2 ^ j)) (length-most x j r)
     rounded : (z : ℕ) → z ≤ digits → roundUp divisor z ≤ shareMost
     rounded z h = omega arith
 
-weight-most : (j : ℕ) (xs : List Float) → AllReal xs → weightOf divisor j xs ≤ shareMost * length xs
+-- entries of at most c digits over 2 ^ j units: c divided and rounded up, for each
+weight-most : (d j c : ℕ) → 0 < d → (xs : List Float) → All (λ x. size (mag binary64 x / 2 ^ j) ≤ c) xs
+    → weightOf d j xs ≤ length xs * roundUp d c
 unfolding weightOf
-weight-most j [] r = zero-le
-weight-most j (x ∷ xs) r =
-    more (roundUp divisor (size (mag binary64 x / 2 ^ j))) (weightOf divisor j xs) (length xs) (share-most x j (r .0))
-    (weight-most j xs (r .1))
+weight-most d j c D [] a = zero-le
+weight-most d j c D (x ∷ xs) a =
+    more (roundUp d (size (mag binary64 x / 2 ^ j))) (weightOf d j xs) (length xs) (roundUp d c) (round-mono d D (a .0))
+    (weight-most d j c D xs (a .1))
   where
-    more : (s w l : ℕ) → s ≤ shareMost → w ≤ shareMost * l → s + w ≤ shareMost * suc l
-    more s w l h g = omega arith
+    more : (s w n t : ℕ) → s ≤ t → w ≤ n * t → s + w ≤ suc n * t
+    more s w n t h g = omega arith
+
+-- every length at most c: the ceiling is at most the list's length times c divided and rounded up
+pub ceiling-lengths : (c : ℕ) (xs : List Float) → All (λ x. size (mag binary64 x / 2 ^ grainOf xs) ≤ c) xs
+    → ceilingOf xs ≤ length xs * roundUp divisor c
+unfolding ceilingOf
+ceiling-lengths c xs a = weight-most divisor (grainOf xs) c (lit< tt) xs a
 
 -- a count of 32 bits holds every ceiling
 pub ceiling-most : (xs : List Float) → AllReal xs → length xs ≤ limit → ceilingOf xs ≤ 50176
-unfolding ceilingOf
-ceiling-most xs r h = all (weightOf divisor (grainOf xs) xs) (length xs) (weight-most (grainOf xs) xs r) h
+ceiling-most xs r h =
+    all (ceilingOf xs) (length xs) (ceiling-lengths digits xs (all-map (λ x. length-most x (grainOf xs)) xs r)) h
   where
-    all : (w l : ℕ) → w ≤ shareMost * l → l ≤ limit → w ≤ 50176
+    all : (w l : ℕ) → w ≤ l * shareMost → l ≤ limit → w ≤ 50176
     all w l h g = omega arith
 
 -- ---- "All-zero and empty lists have ceiling 0."
@@ -141,6 +151,37 @@ ceiling-zeros xs a = weight-zeros (grainOf xs) xs a
 pub ceiling-empty : ceilingOf [] ≡ 0
 ceiling-empty = ceiling-zeros [] tt
 
+-- ---- doubles that are multiples of 2 ^ g and at most 2 ^ b units
+-- a list is of zeros, or has an entry that is none
+zeros-or-some : (xs : List Float)
+    → All (λ x. mag binary64 x ≡ 0) xs ⊎ ((i : ℕ) × (i < length xs) × (0 < mag binary64 (getD xs i nan)))
+zeros-or-some [] = inl tt
+zeros-or-some (x ∷ xs) = elim (eq-zero-or-pos (mag binary64 x)) [
+  | inl e ↦ elim (zeros-or-some xs) [
+    | inl a ↦ inl (e, a)
+    | inr s ↦ inr (suc (s .0), omega (arith, s .1), s .2)
+  ]
+  | inr h ↦ inr (0, zero-lt-suc (length xs), h)
+]
+
+module _ (g b : ℕ) (l : g ≤ b) where
+  -- over a grain that is no less, such a double has no more than b + 1 - g digits
+  sized-length : (j : ℕ) → g ≤ j → (x : Float) → Sized g b x → size (mag binary64 x / 2 ^ j) ≤ b + 1 - g
+  sized-length j h x r =
+      size-le (mag binary64 x / 2 ^ j) (b + 1 - g) (shr-lt (b + 1 - g) j (lt-of-le-of-lt (r .most) (pow-lt (over j h))))
+    where
+      over : (j : ℕ) → g ≤ j → b < b + 1 - g + j
+      over j h = omega arith
+
+  pub ceiling-sized : (xs : List Float) → All (Sized g b) xs → ceilingOf xs ≤ length xs * roundUp divisor (b + 1 - g)
+  ceiling-sized xs a = elim (zeros-or-some xs) [
+    | inl z ↦ le-trans (le-of-eq (ceiling-zeros xs z)) zero-le
+    | inr (i, h, some) ↦
+        let real : AllReal xs = all-map (λ x r. r .real) xs a in
+        let grain = grain-greatest xs g real (all-map (λ x r. r .grain) xs a) i h some in
+        ceiling-lengths (b + 1 - g) xs (all-map (sized-length (grainOf xs) grain) xs a)
+  ]
+
 -- ---- the second pass, from the list's end
 pub weight-end : (d j : ℕ) (xs : List Float) → 0 ≡ weightOf d j (drop (length xs) xs)
 unfolding weightOf
@@ -154,12 +195,12 @@ weight-turn d j xs i p h =
     ∙ ap (weightOf d j) (sym (drop-before xs i p h))
 
 -- ---- the answer
-pub ceiling-refused : (xs : List Float) (r : Refusal) → found (At r) ≡ faultOf xs → ceilingSaid (Refused r) ≡ ceilingAnswer xs
+pub ceiling-refused : (xs : List Float) (r : Refusal) → found (At r) ≡ faultOf xs → CeilingSays xs (Refused r)
 unfolding ceilingSaid ceilingAnswer
 ceiling-refused xs r h = sym (checked-at (ceilingOf xs) xs r h)
 
 pub ceiling-measured : (xs : List Float) (j w : ℕ) → found None ≡ faultOf xs → j ≡ grainOf xs → w ≡ weightOf divisor j xs
-    → ceilingSaid (Steps w) ≡ ceilingAnswer xs
+    → CeilingSays xs (Steps w)
 unfolding ceilingSaid ceilingAnswer ceilingOf
 ceiling-measured xs j w h g e =
     ap answers (e ∙ ap (λ (k : ℕ). weightOf divisor k xs) g) ∙ sym (checked-none (ceilingOf xs) xs h)
@@ -172,5 +213,5 @@ said-once (Steps m) (Refused r) e = cc
 said-once (Refused r) (Steps n) e = cc
 said-once (Refused r) (Refused q) e = ap Refused (refuses-once r q e)
 
-pub ceiling-fixed : (xs : List Float) → Fixes (λ (r : Ceiling). ceilingSaid r ≡ ceilingAnswer xs)
+pub ceiling-fixed : (xs : List Float) → Fixes (λ (r : Ceiling). CeilingSays xs r)
 ceiling-fixed xs a b p q = said-once a b (p ∙ sym q)

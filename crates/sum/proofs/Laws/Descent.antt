@@ -1,4 +1,5 @@
--- Every step of an undecided list lowers its weight, so the weight bounds the steps. In order: division rounded up; what one entry weighs
+-- Every step of an undecided list lowers its weight, so the weight bounds the steps. In order: a number of d digits
+-- fewer; what one entry weighs
 -- (`share`), and how much less an entry d digits smaller weighs; a step keeps the grain and lowers the weight by one at least; a run takes
 -- no more steps than the weight, and decides where the budget is no less; the same for the ceiling. The list is no longer than 2 ^ k, and
 -- the divisor 53 - k. Not here: the grain of a list (`Grain`), what the ceiling is at most (`Ceiling`). Assumes nothing.
@@ -8,7 +9,7 @@ use mathlib.Core.List.{List, [], _∷_}
 use mathlib.Core.Logic.{inl, inr}
 use Prim.Native.Nat.{ℕ, zero, suc, _+_, _-_, _*_, _/_, _^_, _≤_, _<_, _∣_, zero-le}
 use native.Mathlib.Nat.{le-trans, le-antisymm, le-of-eq, le-of-lt, lt-of-le-of-lt, zero-lt-suc, add-zero, mul-right-comm, mul-le-mul-right}
-use native.Mathlib.Nat.{lt-of-mul-lt-mul-right, le-div-iff-mul-le, div-mul-le-self, div-eq-of-lt, add-div-right, div-mul-cancel}
+use native.Mathlib.Nat.{lt-of-mul-lt-mul-right, div-mul-le-self, div-mul-cancel}
 use native.Mathlib.Omega.{arith}
 use lib.Dec.{lit<, lit≤}
 use lib.ListN.{length, set}
@@ -33,30 +34,16 @@ use Rattle.sum.proofs.Laws.Verdict.{undecided-open}
 use Rattle.sum.proofs.Laws.Step.{step-cases, step-real, step-length}
 use Rattle.sum.proofs.Laws.Total.{put-sum}
 use Rattle.sum.proofs.Laws.Runs.{ran-verdict, ran-spent, ran-keeps}
-use Rattle.sum.proofs.Laws.Sign.{run-sign}
+use Rattle.sum.proofs.Laws.Sign.{ran-sign}
 use Rattle.sum.proofs.Laws.Grain.{grain-divides}
+use Rattle.sum.proofs.Laws.RoundUp.{round-mono, round-drops, round-zero, round-some}
 
--- ---- division rounded up
+-- ---- digits
 size-zero : size 0 ≡ 0
 size-zero = le-antisymm (size-le 0 0 (lit< tt)) zero-le
 
 module _ (d : ℕ) (D : 0 < d) where
-  div-mono : {m n : ℕ} → m ≤ n → m / d ≤ n / d
-  div-mono {m} {n} h = le-div-iff-mul-le D .1 (le-trans (div-mul-le-self m d) h)
-
-  round-mono : {m n : ℕ} → m ≤ n → roundUp d m ≤ roundUp d n
-  round-mono {m} {n} h = div-mono (omega arith)
-
-  round-drops : (m n : ℕ) → m + d ≤ n → roundUp d m + 1 ≤ roundUp d n
-  round-drops m n h = le-trans (le-of-eq (sym (add-div-right (m + (d - 1)) D))) (div-mono (omega arith))
-
-  round-zero : roundUp d 0 ≡ 0
-  round-zero = div-eq-of-lt (omega arith)
-
-  round-some : {n : ℕ} → 0 < n → 1 ≤ roundUp d n
-  round-some {n} h = le-div-iff-mul-le D .1 (omega arith)
-
-  -- ---- numbers: y is smaller than b by d digits, b a multiple of 2 ^ j
+  -- y is smaller than b by d digits, b a multiple of 2 ^ j
   quotient-drops : (j y b : ℕ) → y * 2 ^ d < b → 2 ^ j ∣ b → y / 2 ^ j * 2 ^ d < b / 2 ^ j
   quotient-drops j y b h g =
       lt-of-mul-lt-mul-right (2 ^ j)
@@ -67,10 +54,10 @@ module _ (d : ℕ) (D : 0 < d) where
   -- so it has d digits fewer, or none
   length-drops : (y b : ℕ) → y * 2 ^ d < b → roundUp d (size y) + 1 ≤ roundUp d (size b)
   length-drops zero b h =
-      le-trans (le-of-eq (ap (λ (z : ℕ). roundUp d z + 1) size-zero ∙ ap (λ (z : ℕ). z + 1) round-zero))
-      (round-some (size-gt b 0 (lt-of-le-of-lt zero-le h)))
+      le-trans (le-of-eq (ap (λ (z : ℕ). roundUp d z + 1) size-zero ∙ ap (λ (z : ℕ). z + 1) (round-zero d D)))
+      (round-some d D (size-gt b 0 (lt-of-le-of-lt zero-le h)))
   length-drops (suc y) b h =
-      round-drops (size (suc y)) (size b) (le-trans (le-of-eq (sym (size-scale (suc y) d (zero-lt-suc y)))) (size-mono (le-of-lt h)))
+      round-drops d D (size (suc y)) (size b) (le-trans (le-of-eq (sym (size-scale (suc y) d (zero-lt-suc y)))) (size-mono (le-of-lt h)))
 
 -- ---- what an entry weighs
 
@@ -183,8 +170,8 @@ module _ (k j : ℕ) (K : k < prec binary64) where
       next s t w i h g = omega arith
 
   module _ (b : ℕ) (xs : List Float) (a : AllReal xs) (l : length xs ≤ 2 ^ k) (g : Grained j xs) where
-    pub run-steps : ranFrom b 0 xs .steps ≤ weightOf (prec binary64 - k) j xs
-    run-steps =
+    pub ran-steps : ranFrom b 0 xs .steps ≤ weightOf (prec binary64 - k) j xs
+    ran-steps =
         least (weightOf (prec binary64 - k) j (ranFrom b 0 xs .left)) (ranFrom b 0 xs .steps) (weightOf (prec binary64 - k) j xs)
         (falls b xs a l g .weight)
       where
@@ -192,8 +179,8 @@ module _ (k j : ℕ) (K : k < prec binary64) where
         least s i w h = omega arith
 
     -- "A run with a budget at or above the ceiling always decides."
-    pub run-decides : weightOf (prec binary64 - k) j xs ≤ b → (s : Sign) × (ranFrom b 0 xs .verdict ≡ Decided s)
-    run-decides h = go (ranFrom b 0 xs .verdict) refl
+    pub ran-decides : weightOf (prec binary64 - k) j xs ≤ b → (s : Sign) × (ranFrom b 0 xs .verdict ≡ Decided s)
+    ran-decides h = go (ranFrom b 0 xs .verdict) refl
       where
         ys : List Float
         ys = ranFrom b 0 xs .left
@@ -219,15 +206,15 @@ module _ (budget : ℕ) (xs : List Float) (a : AllReal xs) (short : length xs �
   -- "the count never exceeds this ceiling"
   pub ceiling-steps : ranFrom budget 0 xs .steps ≤ ceilingOf xs
   unfolding ceilingOf
-  ceiling-steps = run-steps power (grainOf xs) (lit< tt) budget xs a short (grain-divides xs)
+  ceiling-steps = ran-steps power (grainOf xs) (lit< tt) budget xs a short (grain-divides xs)
 
   -- a budget that is no less is enough
   pub ceiling-enough : ceilingOf xs ≤ budget → (s : Sign) × (ranFrom budget 0 xs .verdict ≡ Decided s)
   unfolding ceilingOf
-  ceiling-enough = run-decides power (grainOf xs) (lit< tt) budget xs a short (grain-divides xs)
+  ceiling-enough = ran-decides power (grainOf xs) (lit< tt) budget xs a short (grain-divides xs)
 
   -- and the answer is the exact total's sign
   pub ceiling-sign : ceilingOf xs ≤ budget → decision (ranFrom budget 0 xs .verdict) ≡ sign (sgn (totalOf xs))
   ceiling-sign h =
       let (s, e) = ceiling-enough h in
-      ap decision e ∙ ap sign (run-sign budget xs a s (le-trans short (lit≤ tt)) e)
+      ap decision e ∙ ap sign (ran-sign budget xs a s (le-trans short (lit≤ tt)) e)

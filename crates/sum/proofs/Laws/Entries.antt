@@ -32,6 +32,10 @@ module _ (P : Float → Type 0) where
   all-set (x ∷ xs) zero u a p = (p, a .1)
   all-set (x ∷ xs) (suc i) u a p = (a .0, all-set xs i u (a .1) p)
 
+pub all-map : {P Q : Float → Type 0} → ((x : Float) → P x → Q x) → (xs : List Float) → All P xs → All Q xs
+all-map f [] a = tt
+all-map f (x ∷ xs) a = (f x (a .0), all-map f xs (a .1))
+
 -- ---- lists of doubles
 
 -- every entry is a finite double

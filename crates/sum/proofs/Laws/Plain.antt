@@ -4,12 +4,12 @@
 use mathlib.Core.Path.{_≡_, refl, sym, ap, _∙_}
 use mathlib.Core.Logic.{_⊎_, inl, inr}
 use mathlib.Core.Bool.{Bool, true, false, cond}
-use mathlib.Core.List.{List, []}
+use mathlib.Core.List.{List}
 use Prim.Native.Nat.{ℕ, zero, suc, _+_, _*_, _^_, _≤_, _<_}
 use native.Mathlib.Nat.{le-trans, le-of-lt, lt-of-lt-of-le, lt-of-le-of-lt, mul-le-mul-right, eq-zero-or-pos}
 use native.Mathlib.Numerals.{add-one}
 use native.Mathlib.Omega.{arith}
-use lib.Dec.{leb, eqb, ltb→lt, lit≤}
+use lib.Dec.{leb, eqb, ltb→lt}
 use lib.IntN.{ℤ, pos, negℤ, _+ℤ_, _-ℤ_}
 use lib.ListN.{length, getD, drop, drop-of-length-le}
 use lib.Pow.{pow-mono, shl-lt}
@@ -20,23 +20,17 @@ use Rattle.whole.specs.Sign.{sgn}
 use Rattle.whole.proofs.Laws.Parts.{up, dn, up-neg, dn-neg, add-parts, ≡-parts}
 use Rattle.whole.proofs.Laws.Sign.{sgn-nat-positive, sgn-nat-zero, sgn-nat-negative}
 use Rattle.double.specs.Worth.{worth}
-use Rattle.double.specs.Outcome.{answers, Fixes}
+use Rattle.double.specs.Outcome.{Fixes}
 use Rattle.double.specs.declared.answer.Parts.{Parts}
 use Rattle.double.proofs.Laws.Apart.{Means}
 use Rattle.double.proofs.Laws.Outcome.{refuses-once}
 use Rattle.sum.specs.Limit.{limit}
 use Rattle.sum.specs.Total.{totalOf, signNumber}
-use Rattle.sum.specs.Plain.{plainSaid, plainOf}
+use Rattle.sum.specs.Plain.{plainSaid, PlainSays}
 use Rattle.sum.specs.Words.{base, count, modulus, half, valueOf, Changed, unitsOf, addsOf, takesOf, signHeld}
-use Rattle.sum.specs.Run.{ranFrom, Accepted}
-use Rattle.sum.proofs.Laws.Refused.{checked-accepted}
-use Rattle.sum.proofs.Laws.Entries.{AllReal}
 use Rattle.sum.proofs.Laws.Running.{sign-once}
-use Rattle.sum.proofs.Laws.Sign.{run-sign}
 use Rattle.sum.proofs.Laws.Words.{past}
-use Rattle.sum.specs.declared.answer.Sign.{Sign}
 use Rattle.sum.specs.declared.answer.Sign.the-variants.{Minus, Zero, Plus}
-use Rattle.sum.specs.declared.answer.Verdict.the-variants.{Decided}
 use Rattle.sum.specs.declared.answer.Plain.{Plain}
 use Rattle.sum.specs.declared.answer.Plain.the-variants.{Signed, Refused}
 
@@ -210,12 +204,5 @@ said-once (Signed r) (Refused q) e = cc
 said-once (Refused q) (Signed s) e = cc
 said-once (Refused q) (Refused r) e = ap Refused (refuses-once q r e)
 
-pub plain-fixed : (xs : List Float) → Fixes (λ (r : Plain). plainSaid r ≡ plainOf xs)
+pub plain-fixed : (xs : List Float) → Fixes (λ (r : Plain). PlainSays xs r)
 plain-fixed xs a b p q = said-once a b (p ∙ sym q)
-
--- ---- "The plain sum gives the same sign": what a run with any budget decides
-pub run-plain : (budget : ℕ) (xs : List Float) → AllReal xs → Accepted xs → (s : Sign) → ranFrom budget 0 xs .verdict ≡ Decided s
-    → plainOf xs ≡ answers (signNumber s)
-unfolding plainOf
-run-plain budget xs a l s e =
-    checked-accepted xs (sgn (totalOf xs)) l ∙ ap answers (sym (run-sign budget xs a s (le-trans (l .short) (lit≤ tt)) e))

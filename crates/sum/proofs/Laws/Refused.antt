@@ -1,23 +1,25 @@
--- Which lists are refused. In order: a double is finite by two comparisons; the turns of the search for a fault; what its end says of every
--- answer that is given unless the list is refused. Assumes nothing.
-use mathlib.Core.Path.{_≡_, refl, sym, ap, _∙_, subst}
+-- Which lists are refused. In order: a double is finite by two comparisons; the two tests in their order; a list that is not refused; with
+-- which number and place a list is refused, both ways; what the end of the search for a fault says of every answer. Assumes nothing.
+use mathlib.Core.Path.{_≡_, refl, sym, ap₂, _∙_, subst}
 use mathlib.Core.Bool.{Bool, true, false, cond}
 use mathlib.Core.List.{List, [], _∷_}
-use Prim.Native.Nat.{ℕ, _+_, _≤_, _<_}
-use native.Mathlib.Numerals.{add-one}
+use mathlib.Core.Logic.{inl, inr}
+use Prim.Native.Nat.{ℕ, zero, suc, _≤_, _<_}
+use native.Mathlib.Nat.{zero-add}
 use native.Mathlib.Omega.{arith}
 use lib.Dec.{T, ltb}
-use lib.ListN.{length, drop, getD, drop-of-length-le}
-use lib.Seq.{drop-cons}
+use lib.ListN.{length}
 use lib.Ieee.{Float, nan, inf, fin, lt}
 use lib.Ieee.Bits.{is-true}
 use lib.Ieee.Scale.{finite}
-use borrow.Author.Tests.{lt-ltb, le-ltb, ltb-false}
+use borrow.Author.Tests.{lt-ltb, le-ltb, ltb-true, ltb-false}
 use Rattle.double.specs.declared.refusal.Refusal.{Refusal}
-use Rattle.double.specs.Outcome.{Outcome, answers, refuses, tooMany, notFinite}
+use Rattle.double.specs.Outcome.{answers, refuses, tooMany, notFinite}
+use Rattle.double.specs.Search.{AllPass, IsFirst}
+use Rattle.double.proofs.Laws.Outcome.{no-refusal}
+use Rattle.double.proofs.Laws.Search.{passing-whole, passing-answered, passing-first, passing-refused}
 use Rattle.sum.specs.Limit.{limit}
-use Rattle.sum.specs.Refused.{checkedFrom, checked, found, faultOf, AllFinite}
-use Rattle.sum.specs.Run.{Accepted}
+use Rattle.sum.specs.Refused.{checkedFrom, checked, RefusedAs, AllFinite, Accepted, found, faultOf}
 use Rattle.sum.specs.declared.fault.Fault.the-variants.{None, At}
 
 -- ---- finite: below infinity and above minus infinity
@@ -35,7 +37,17 @@ finite-not-below (inf true) h = refl
 finite-not-below (inf false) h = refl
 finite-not-below (fin s m e) h = sym h
 
--- ---- the search, over any answer
+-- every entry is finite, by its index
+finite-pass : (xs : List Float) → AllFinite xs → AllPass finite nan xs
+finite-pass [] f i h = let z : ⊥ = omega arith in absurd z
+finite-pass (x ∷ xs) f zero h = is-true (finite x) (f .0)
+finite-pass (x ∷ xs) f (suc i) h = finite-pass xs (f .1) i (omega arith)
+
+pass-finite : (xs : List Float) → AllPass finite nan xs → AllFinite xs
+pass-finite [] h = tt
+pass-finite (x ∷ xs) h = (subst T (sym (h 0 (omega arith))) tt, pass-finite xs (λ i l. h (suc i) (omega arith)))
+
+-- ---- the two tests
 module _ {A : Type 0} (xs : List Float) (answer : A) where
   pub checked-long : limit < length xs → checked xs answer ≡ refuses tooMany 0
   unfolding checked
@@ -45,83 +57,47 @@ module _ {A : Type 0} (xs : List Float) (answer : A) where
   unfolding checked
   checked-short h = rw (le-ltb limit (length xs) h)
 
-  pub checked-here : (i : ℕ) → i < length xs → finite (getD xs i nan) ≡ false → checkedFrom i (drop i xs) answer ≡ refuses notFinite i
-  unfolding checkedFrom
-  checked-here i h e = rw (drop-cons xs i nan h, e)
+  -- ---- a finite list within the limit is not refused, and no other is answered
+  pub checked-accepted : Accepted xs → checked xs answer ≡ answers answer
+  checked-accepted a = checked-short (a .short) ∙ passing-whole finite notFinite nan answer 0 xs (finite-pass xs (a .finite))
 
-  pub checked-later : (i : ℕ) → i < length xs → finite (getD xs i nan) ≡ true
-      → checkedFrom i (drop i xs) answer ≡ checkedFrom (i + 1) (drop (i + 1) xs) answer
-  unfolding checkedFrom
-  checked-later i h e = rw (drop-cons xs i nan h, e, add-one i) refl
+  pub checked-answered : {given : A} → checked xs answer ≡ answers given → Accepted xs × (answer ≡ given)
+  unfolding checked
+  checked-answered {given} e = go (ltb limit (length xs)) refl e
+    where
+      go : (b : Bool) → ltb limit (length xs) ≡ b → cond b (refuses tooMany 0) (checkedFrom 0 xs answer) ≡ answers given
+          → Accepted xs × (answer ≡ given)
+      go true t e = no-refusal e
+      go false t e =
+          let (all, same) = passing-answered finite notFinite nan answer 0 xs given e in
+          (record { short = ltb-false limit (length xs) t; finite = pass-finite xs all }, same)
 
-  pub checked-end : (i : ℕ) → length xs ≤ i → checkedFrom i (drop i xs) answer ≡ answers answer
-  unfolding checkedFrom
-  checked-end i h = rw (drop-of-length-le xs h)
+  -- ---- with which number and place a list is refused
+  pub checked-refused : (n p : ℕ) → RefusedAs xs n p → checked xs answer ≡ refuses n p
+  checked-refused n p (inl (long, number, place)) = checked-long long ∙ ap₂ (λ (m k : ℕ). refuses m k) (sym number) (sym place)
+  checked-refused n p (inr (short, number, first)) =
+      checked-short short ∙ passing-first finite notFinite nan answer 0 xs p first
+      ∙ ap₂ (λ (m k : ℕ). refuses m k) (sym number) (zero-add p)
 
--- a finite list within the limit is never refused
-finite-answers : {A : Type 0} (i : ℕ) (xs : List Float) (answer : A) → AllFinite xs → checkedFrom i xs answer ≡ answers answer
-unfolding checkedFrom
-finite-answers i [] answer f = refl
-finite-answers i (x ∷ xs) answer f = rw (is-true (finite x) (f .0)) (finite-answers (i + 1) xs answer (f .1))
-
-pub checked-accepted : {A : Type 0} (xs : List Float) (answer : A) → Accepted xs → checked xs answer ≡ answers answer
-checked-accepted xs answer a = checked-short xs answer (a .short) ∙ finite-answers 0 xs answer (a .finite)
+  pub refused-checked : (n p : ℕ) → checked xs answer ≡ refuses n p → RefusedAs xs n p
+  unfolding checked
+  refused-checked n p e = go (ltb limit (length xs)) refl e
+    where
+      go : (b : Bool) → ltb limit (length xs) ≡ b → cond b (refuses tooMany 0) (checkedFrom 0 xs answer) ≡ refuses n p → RefusedAs xs n p
+      go true t e = inl (ltb-true limit (length xs) t, cc, cc)
+      go false t e =
+          let (same, (j, place, first)) = passing-refused finite notFinite nan answer 0 xs n p e in
+          inr (ltb-false limit (length xs) t, same, subst (IsFirst finite nan xs) (sym (place ∙ zero-add j)) first)
 
 -- ---- what a search that is over says
-abbrev faultFrom : ℕ → List Float → Outcome Unit
-faultFrom i xs = checkedFrom i xs tt
-
-abbrev nothing : Outcome Unit
-nothing = answers tt
-
--- nothing is found: the list is short, and its entries are finite
-finite-from : (i : ℕ) (xs : List Float) → faultFrom i xs ≡ nothing → AllFinite xs
-unfolding checkedFrom
-finite-from i [] h = tt
-finite-from i (x ∷ xs) h = go (finite x) refl (λ e. finite-from (i + 1) xs e) h
-  where
-    go : (b : Bool) → finite x ≡ b → (faultFrom (i + 1) xs ≡ nothing → AllFinite xs)
-        → cond b (faultFrom (i + 1) xs) (refuses notFinite i) ≡ nothing → T (finite x) × AllFinite xs
-    go true e ih h = (subst T (sym e) tt, ih h)
-    go false e ih h = let z : _≡_ {A = ℕ} 0 1 = cc in let w : ⊥ = omega arith in absurd w
-
 pub fault-none : (xs : List Float) → found None ≡ faultOf xs → Accepted xs
-unfolding checked found
-fault-none xs h = go (ltb limit (length xs)) refl (sym h)
-  where
-    go : (b : Bool) → ltb limit (length xs) ≡ b → cond b (refuses tooMany 0) (faultFrom 0 xs) ≡ nothing → Accepted xs
-    go true e h = let z : _≡_ {A = ℕ} 0 1 = cc in let w : ⊥ = omega arith in absurd w
-    go false e h = record { short = ltb-false limit (length xs) e; finite = finite-from 0 xs h }
-
--- any other answer is given, or refused, where this one is
-withAnswer : {A : Type 0} → A → Outcome Unit → Outcome A
-withAnswer a (answers u) = answers a
-withAnswer a (refuses n p) = refuses n p
+unfolding found
+fault-none xs h = checked-answered xs tt (sym h) .0
 
 module _ {A : Type 0} (a : A) where
-  with-from : (i : ℕ) (xs : List Float) → checkedFrom i xs a ≡ withAnswer a (faultFrom i xs)
-  unfolding checkedFrom withAnswer
-  with-from i [] = refl
-  with-from i (x ∷ xs) = go (finite x) (with-from (i + 1) xs)
-    where
-      go : (b : Bool) → checkedFrom (i + 1) xs a ≡ withAnswer a (faultFrom (i + 1) xs)
-          → cond b (checkedFrom (i + 1) xs a) (refuses notFinite i) ≡ withAnswer a (cond b (faultFrom (i + 1) xs) (refuses notFinite i))
-      go true ih = ih
-      go false ih = refl
-
-  with-checked : (xs : List Float) → checked xs a ≡ withAnswer a (faultOf xs)
-  unfolding checked withAnswer
-  with-checked xs = go (ltb limit (length xs)) (with-from 0 xs)
-    where
-      go : (b : Bool) → checkedFrom 0 xs a ≡ withAnswer a (faultFrom 0 xs)
-          → cond b (refuses tooMany 0) (checkedFrom 0 xs a) ≡ withAnswer a (cond b (refuses tooMany 0) (faultFrom 0 xs))
-      go true ih = refl
-      go false ih = ih
-
   pub checked-none : (xs : List Float) → found None ≡ faultOf xs → checked xs a ≡ answers a
-  unfolding found withAnswer
-  checked-none xs h = with-checked xs ∙ ap (withAnswer a) (sym h)
+  checked-none xs h = checked-accepted xs a (fault-none xs h)
 
   pub checked-at : (xs : List Float) (r : Refusal) → found (At r) ≡ faultOf xs → checked xs a ≡ refuses (r .number) (r .place)
-  unfolding found withAnswer
-  checked-at xs r h = with-checked xs ∙ ap (withAnswer a) (sym h)
+  unfolding found
+  checked-at xs r h = checked-refused xs a (r .number) (r .place) (refused-checked xs tt (r .number) (r .place) (sym h))

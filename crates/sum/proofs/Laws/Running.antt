@@ -14,11 +14,11 @@ use Rattle.double.specs.declared.refusal.Refusal.{Refusal}
 use Rattle.double.proofs.Laws.Outcome.{refuses-once}
 use Rattle.sum.specs.Limit.{limit}
 use Rattle.double.specs.Worth.{AllDoubles}
-use Rattle.sum.specs.Refused.{found, faultOf}
+use Rattle.sum.specs.Refused.{Accepted, found, faultOf}
 use Rattle.sum.specs.Total.{signNumber}
 use Rattle.sum.specs.Look.{verdictOf, verdictBy, lookOf}
 use Rattle.sum.specs.Step.{stepOf}
-use Rattle.sum.specs.Run.{Accepted, RanSays, RunSays, Reached, reached, ranFrom, runOf, leftOf, said, Told, told, decision, kept}
+use Rattle.sum.specs.Run.{RanSays, RunSays, Reached, reached, ranFrom, runOf, leftOf, said, Told, told, decision, kept}
 use Rattle.sum.specs.Tally.{tallyOf, lookAt, Stepping}
 use Rattle.sum.specs.declared.answer.Sign.{Sign}
 use Rattle.sum.specs.declared.answer.Sign.the-variants.{Minus, Zero, Plus}
@@ -97,15 +97,15 @@ module _ {budget : ℕ} {start : List Float} {steps : ℕ} {xs : List Float} (go
 
 -- ---- the public promise
 module _ (xs : List Float) (budget : ℕ) where
-  pub run-refused : (r : Refusal) → found (At r) ≡ faultOf xs → RunSays xs budget (Refused r) xs
+  pub run-says-refused : (r : Refusal) → found (At r) ≡ faultOf xs → RunSays xs budget (Refused r) xs
   unfolding said runOf leftOf
-  run-refused r h =
+  run-says-refused r h =
       let e = checked-at (told (ranFrom budget 0 xs .verdict) (ranFrom budget 0 xs .steps)) xs r h in
       record { answer = sym e; left = sym (ap (λ (o : Outcome _). kept o xs (ranFrom budget 0 xs .left)) e) }
 
-  pub run-done : (r : Ran) (left : List Float) → found None ≡ faultOf xs → RanSays xs budget r left → RunSays xs budget (Done r) left
+  pub run-says-done : (r : Ran) (left : List Float) → found None ≡ faultOf xs → RanSays xs budget r left → RunSays xs budget (Done r) left
   unfolding said runOf leftOf
-  run-done r left h s =
+  run-says-done r left h s =
       let e = checked-none (told (ranFrom budget 0 xs .verdict) (ranFrom budget 0 xs .steps)) xs h in
       record {
         answer = ap₂ (λ (v : Verdict) (k : ℕ). answers (told v k)) (s .verdict) (s .steps) ∙ sym e;

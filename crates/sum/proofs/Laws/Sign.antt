@@ -1,6 +1,6 @@
 -- The sign that a list's look decides is that of the exact total. In order: the total as a difference of what lies on each side; how much
 -- that is, at least the extreme and at most the count times the extreme; the verdict (`verdict-sign`); the run, whose steps keep the total
--- (`run-total`, `run-sign`). Not here: that a run decides (`Descent`). Assumes nothing.
+-- (`ran-total`, `ran-sign`). Not here: that a run decides (`Descent`). Assumes nothing.
 use mathlib.Core.Path.{_≡_, refl, sym, ap, _∙_, subst}
 use mathlib.Core.Bool.{Bool, true, false, not, cond}
 use mathlib.Core.List.{List, [], _∷_}
@@ -171,11 +171,11 @@ module _ (budget : ℕ) (xs : List Float) (a : AllReal xs) where
       budget xs (record { real = a; long = refl; total = refl })
 
   -- "the exact total is the same after each step": the list that any budget leaves has it
-  pub run-total : totalOf (ranFrom budget 0 xs .left) ≡ totalOf xs
-  run-total = kept .total
+  pub ran-total : totalOf (ranFrom budget 0 xs .left) ≡ totalOf xs
+  ran-total = kept .total
 
-  pub run-sign : (s : Sign) → length xs ≤ 2 ^ prec binary64 → ranFrom budget 0 xs .verdict ≡ Decided s → signNumber s ≡ sgn (totalOf xs)
-  run-sign s h e =
+  pub ran-sign : (s : Sign) → length xs ≤ 2 ^ prec binary64 → ranFrom budget 0 xs .verdict ≡ Decided s → signNumber s ≡ sgn (totalOf xs)
+  ran-sign s h e =
       let ys = ranFrom budget 0 xs .left in
       verdict-sign ys (kept .real) (subst (λ (n : ℕ). n ≤ 2 ^ prec binary64) (sym (kept .long)) h) s (sym (ran-verdict budget xs) ∙ e)
       ∙ ap sgn (kept .total)

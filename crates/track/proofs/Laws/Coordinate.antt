@@ -1,20 +1,22 @@
--- One coordinate of a file. In order: a pattern that is no NaN's; a pattern judged; a number judged. Not here: that a coordinate is read
--- back (Laws.RoundTrip). Assumes nothing.
+-- One coordinate of a file. In order: a pattern that is no NaN's; a pattern judged; a number judged; what each refusal is. Not here: that a
+-- coordinate is read back (Laws.RoundTrip). Assumes nothing.
 use Prim.Native.Nat.{ℕ, _*_, _%_, _≤_, _<_}
 use mathlib.Core.Path.{_≡_, refl, sym, _∙_, subst}
-use mathlib.Core.Bool.{Bool, true, false, not}
+use mathlib.Core.Bool.{Bool, true, false, not, _||_}
 use mathlib.Core.List.{List}
 use borrow.Author.Tests.{lt-ltb, le-ltb}
-use lib.Dec.{T}
+use lib.Dec.{T, eqb}
 use lib.Ieee.{Float, nan, inf, fin, binary64, isNan, nanBits, ofBits, ones, hid, top}
 use lib.Ieee.Bits.{nanBits-above, nanBits-is}
-use Rattle.double.specs.Outcome.{answers, refuses, notAccepted}
+use Rattle.double.specs.Outcome.{answers, refuses, notAccepted, endsEarly, notShortest}
 use Rattle.point.specs.Accepted.{acceptedOf, acceptedWithin}
 use Rattle.track.specs.Number.{numberOf}
 use Rattle.track.specs.Difference.{restoredOf}
 use Rattle.track.specs.Coordinate.{judgedOf, coordinateOf}
 use Rattle.track.specs.declared.number.Number.{Number}
 use Rattle.track.proofs.Laws.Judged.{also-answers, also-refuses, require-holds, require-fails}
+use Rattle.track.proofs.Laws.Judged.{Each, each-answers, each-also, each-require}
+use Rattle.track.proofs.Laws.Number.{number-each}
 
 -- ---- patterns of NaNs
 nan-refused : (x : Float) → isNan x ≡ true → acceptedOf x ≡ false
@@ -51,6 +53,10 @@ module _ (p start next : ℕ) where
       judged-refused (nan-refused (ofBits binary64 p) (sym (nanBits-is binary64 p) ∙ above))
 
 -- ---- a number judged
+-- "6 or 7, then 3"
+abbrev pub isCoordinates : ℕ → Bool
+isCoordinates n = eqb n endsEarly || (eqb n notShortest || eqb n notAccepted)
+
 module _ (bytes : List ℕ) (start before : ℕ) where
   pub coordinate-judged : (n : Number) → answers n ≡ numberOf bytes start
       → judgedOf (restoredOf (n .value) before) start (n .next) ≡ coordinateOf bytes start before
@@ -61,3 +67,16 @@ module _ (bytes : List ℕ) (start before : ℕ) where
       → refuses number place ≡ coordinateOf bytes start before
   unfolding coordinateOf
   coordinate-refused number place e = sym (also-refuses (λ (z : Number). judgedOf (restoredOf (z .value) before) start (z .next)) (sym e))
+
+  pub coordinate-each : (such : ℕ → ℕ → Type 0) → Each such (numberOf bytes start) → such notAccepted start
+      → Each such (coordinateOf bytes start before)
+  unfolding coordinateOf judgedOf
+  coordinate-each such h bad = each-also such (numberOf bytes start) _ h (λ n e.
+      each-require such (acceptedOf (ofBits binary64 (restoredOf (n .value) before))) notAccepted start _ (λ _. bad) (λ _.
+      each-answers such _))
+
+  -- 6, 7 or 3, where the number begins
+  pub coordinate-refusal : Each (λ number place. (isCoordinates number ≡ true) × (place ≡ start)) (coordinateOf bytes start before)
+  coordinate-refusal =
+      let such : ℕ → ℕ → Type 0 = λ number place. (isCoordinates number ≡ true) × (place ≡ start) in
+      coordinate-each such (number-each such bytes start (λ _. (refl, refl)) (λ _. (refl, refl))) (refl, refl)

@@ -1,7 +1,7 @@
 -- The first bytes of a file decide what reading it answers. In order: one coordinate; all of them; the whole file, for which 10,243 bytes
 -- are enough. Not here: one number (Laws.Taken). Assumes nothing.
 use Prim.Native.Nat.{ℕ, zero, suc, _+_, _*_, _≤_, _<_}
-use mathlib.Core.Path.{_≡_, refl, ap, _∙_}
+use mathlib.Core.Path.{_≡_, refl, sym, ap, _∙_}
 use mathlib.Core.Bool.{Bool, true, false}
 use mathlib.Core.List.{List, [], _∷_}
 use native.Mathlib.Omega.{arith}
@@ -21,6 +21,7 @@ use Rattle.track.specs.declared.number.Number.{Number}
 use Rattle.track.specs.declared.coordinate.Coordinate.{Coordinate}
 use Rattle.track.proofs.Laws.Judged.{also-answered, require-answered}
 use Rattle.track.proofs.Laws.Written.{written-length, written-mono}
+use Rattle.track.proofs.Laws.Scan.{coordinates-end, coordinates-turn}
 use Rattle.track.proofs.Laws.Taken.{Read, number-read, number-near, number-first}
 
 -- ---- one coordinate
@@ -50,13 +51,16 @@ end-first file n start h = go (leb (length file) start) refl
 
 coordinates-first : (count : ℕ) (file : List ℕ) (n start before other : ℕ) → start + 10 * count < n
     → coordinatesOf (take n file) start before other count ≡ coordinatesOf file start before other count
-unfolding coordinatesOf
 coordinates-first zero file n start before other h =
-    ap (λ (t : Bool). also {B = List Float} (require t bytesAfter start) (λ _. answers [])) (end-first file n start (omega arith))
+    coordinates-end (take n file) start before other
+    ∙ ap (λ (t : Bool). also {B = List Float} (require t bytesAfter start) (λ _. answers [])) (end-first file n start (omega arith))
+    ∙ sym (coordinates-end file start before other)
 coordinates-first (suc count) file n start before other h =
-    ap (λ (o : Outcome Coordinate). also o (onward (take n file))) (coordinate-first file n start before (omega arith))
+    coordinates-turn (take n file) start before other count
+    ∙ ap (λ (o : Outcome Coordinate). also o (onward (take n file))) (coordinate-first file n start before (omega arith))
     ∙ go (coordinateOf file start before) (coordinate-near file start before)
     (λ c l. coordinates-first count file n (c .next) other (c .pattern) (omega arith))
+    ∙ sym (coordinates-turn file start before other count)
   where
     onward : List ℕ → Coordinate → Outcome (List Float)
     onward bytes c = also (coordinatesOf bytes (c .next) other (c .pattern) count) (λ rest. answers (c .value ∷ rest))

@@ -1,7 +1,8 @@
 -- Refusals one after the other. In order: the two sides of a test; what follows an answer, and what a refusal leaves; what an answer tells
--- of what was judged before it. Not here: that a refusal is known by its number and place (Laws.Outcome of double). Assumes nothing.
+-- of what was judged before it, and what a refusal tells; what each refusal of a judgement is. Not here: that a refusal is known by its
+-- number and place (Laws.Outcome of double). Assumes nothing.
 use Prim.Native.Nat.{ℕ}
-use mathlib.Core.Path.{_≡_, refl, ap}
+use mathlib.Core.Path.{_≡_, refl, ap, subst}
 use mathlib.Core.Bool.{Bool, true, false, cond}
 use native.Mathlib.Omega.{arith}
 use Rattle.double.specs.Outcome.{Outcome, answers, refuses}
@@ -39,3 +40,37 @@ pub require-answered : {B : Type 0} (t : Bool) (number place : ℕ) (next : Unit
     → also (require t number place) next ≡ answers b → (t ≡ true) × (next tt ≡ answers b)
 require-answered true number place next e = (refl, e)
 require-answered false number place next e = absurd (let z : _≡_ {A = ℕ} 0 1 = cc in omega arith)
+
+-- ---- what a refusal tells
+pub also-refused : {A B : Type 0} (o : Outcome A) (f : A → B) {number place : ℕ} → also o (λ a. answers (f a)) ≡ refuses number place
+    → o ≡ refuses number place
+also-refused (answers a) f e = absurd (let z : _≡_ {A = ℕ} 0 1 = cc in omega arith)
+also-refused (refuses n p) f {number} {place} e =
+    let a : n ≡ number = cc in
+    let b : p ≡ place = cc in
+    λ i. refuses (a i) (b i)
+
+-- ---- what each refusal is
+abbrev pub Each : {A : Type 0} → (ℕ → ℕ → Type 0) → Outcome A → Type 0
+Each such o = (number place : ℕ) → o ≡ refuses number place → such number place
+
+module _ (such : ℕ → ℕ → Type 0) where
+  pub each-answers : {A : Type 0} (a : A) → Each such (answers a)
+  each-answers a number place e = absurd (let z : _≡_ {A = ℕ} 0 1 = cc in omega arith)
+
+  pub each-refuses : {A : Type 0} (n p : ℕ) → such n p → Each {A = A} such (refuses n p)
+  each-refuses n p h number place e =
+      let a : n ≡ number = cc in
+      let b : p ≡ place = cc in
+      subst (λ (z : ℕ). such z place) a (subst (such n) b h)
+
+  pub each-also : {A B : Type 0} (o : Outcome A) (next : A → Outcome B) → Each such o → ((a : A) → o ≡ answers a → Each such (next a))
+      → Each such (also o next)
+  each-also (answers a) next h k = k a refl
+  each-also {B = B} (refuses n p) next h k = each-refuses {A = B} n p (h n p refl)
+
+  pub each-require : {B : Type 0} (t : Bool) (n p : ℕ) (next : Unit → Outcome B) → (t ≡ false → such n p)
+      → (t ≡ true → Each such (next tt))
+      → Each such (also (require t n p) next)
+  each-require true n p next h k = k refl
+  each-require {B = B} false n p next h k = each-refuses {A = B} n p (h refl)

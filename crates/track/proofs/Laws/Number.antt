@@ -1,5 +1,6 @@
--- The number that bytes begin with. In order: a reader of its groups, turn by turn, and its answers; a written number is read back; what is
--- read is what is written; how far a reader looks. Not here: how a number is written (Laws.Written). Assumes nothing.
+-- The number that bytes begin with. In order: a reader of its groups, turn by turn, and its answers; a written number is read back; which
+-- refusals there are. Not here: how a number is written (Laws.Written), the bytes of a number that was read (Laws.Taken), the bytes of each
+-- refusal (Laws.Faults). Assumes nothing.
 use Prim.Native.Nat.{ℕ, zero, suc, _+_, _-_, _*_, _/_, _%_, _^_, _≤_, _<_}
 use mathlib.Core.Path.{_≡_, refl, sym, ap, _∙_}
 use mathlib.Core.Bool.{Bool, true, false, _&&_}
@@ -16,7 +17,7 @@ use lib.Seq.{drop-cons}
 use Rattle.double.specs.Outcome.{Outcome, answers, refuses, endsEarly, notShortest}
 use Rattle.track.specs.declared.number.Number.{Number}
 use Rattle.track.specs.Number.{groupsOf, writtenOf, full, Begins, number, early, faulty, above, beginsWith, placed, numberOf}
-use Rattle.track.proofs.Laws.Judged.{cond-yes, cond-no}
+use Rattle.track.proofs.Laws.Judged.{cond-yes, cond-no, Each, each-answers, each-refuses}
 use Rattle.track.proofs.Laws.Written.{Held, groups-last, groups-more}
 
 -- ---- a reader of groups
@@ -175,3 +176,16 @@ groups-read (suc k) v later rest l h z =
 pub number-written : (v : ℕ) (rest : List ℕ) → v < 2 ^ 64 → beginsWith full false (writtenOf v ++ rest) ≡ number v (length (writtenOf v))
 unfolding writtenOf
 number-written v rest h = groups-read full v false rest h (λ e. absurd (let z : _≡_ {A = ℕ} 0 1 = cc in omega arith)) (λ e. omega arith)
+
+-- ---- which refusals there are
+pub number-each : (such : ℕ → ℕ → Type 0) (bytes : List ℕ) (start : ℕ)
+    → (numberOf bytes start ≡ refuses endsEarly start → such endsEarly start)
+    → (numberOf bytes start ≡ refuses notShortest start → such notShortest start) → Each such (numberOf bytes start)
+unfolding numberOf placed
+number-each such bytes start six seven = go (beginsWith full false (drop start bytes)) six seven
+  where
+    go : (g : Begins) → (placed start g ≡ refuses endsEarly start → such endsEarly start)
+        → (placed start g ≡ refuses notShortest start → such notShortest start) → Each such (placed start g)
+    go (number v n) six seven = each-answers such _
+    go early six seven = each-refuses such endsEarly start (six refl)
+    go faulty six seven = each-refuses such notShortest start (seven refl)

@@ -23,6 +23,7 @@ use Rattle.track.specs.Read.{coordinatesOf, countedOf, readOf, ReadSays}
 use Rattle.track.specs.declared.coordinate.Coordinate.{Coordinate}
 use Rattle.track.specs.declared.answer.Reading.the-variants.{Points}
 use Rattle.track.proofs.Laws.Judged.{also-answered, require-answered}
+use Rattle.track.proofs.Laws.Scan.{coordinates-end, coordinates-turn}
 
 -- ---- coordinates
 coordinate-accepted : (bytes : List ℕ) (start before : ℕ) (c : Coordinate) → coordinateOf bytes start before ≡ answers c
@@ -47,13 +48,12 @@ accepted-one x xs h k (suc i) l = k i (omega arith)
 
 coordinates-accepted : (n : ℕ) (bytes : List ℕ) (start before other : ℕ) (points : List Float)
     → coordinatesOf bytes start before other n ≡ answers points → Coordinates n points
-unfolding coordinatesOf
 coordinates-accepted zero bytes start before other points e =
-    let g = require-answered (leb (length bytes) start) bytesAfter start _ e in
+    let g = require-answered (leb (length bytes) start) bytesAfter start _ (sym (coordinates-end bytes start before other) ∙ e) in
     let none : [] ≡ points = cc (g .1) in
     subst (Coordinates 0) none (record { many = refl; good = λ i l. let z : ⊥ = omega arith in absurd z })
 coordinates-accepted (suc n) bytes start before other points e =
-    let a = also-answered (coordinateOf bytes start before) _ e in
+    let a = also-answered (coordinateOf bytes start before) _ (sym (coordinates-turn bytes start before other n) ∙ e) in
     let c = a .0 in
     let b = also-answered (coordinatesOf bytes (c .next) other (c .pattern) n) _ (a .2) in
     let xs = b .0 in

@@ -6,13 +6,14 @@ use mathlib.Core.List.{List, [], _∷_, _++_, append-nil}
 use native.Mathlib.Numerals.{add-one}
 use native.Mathlib.Omega.{arith}
 use borrow.Author.Tests.{le-leb, lt-leb}
+use lib.Dec.{leb}
 use lib.ListN.{length, take, drop, getD, set, length-set}
 use lib.Seq.{append-snoc, take-suc, drop-cons, set-at, take-suc-set, length-take-le}
 use lib.Ieee.{Float, nan}
 use Rattle.double.specs.Outcome.{Outcome, answers, refuses, Fixes, tooMany, noRoom, bytesAfter}
 use Rattle.double.specs.declared.refusal.Refusal.{Refusal}
 use Rattle.double.proofs.Laws.Outcome.{refuses-once}
-use Rattle.track.specs.Judged.{also, filled}
+use Rattle.track.specs.Judged.{require, also, filled}
 use Rattle.track.specs.Number.{numberOf}
 use Rattle.track.specs.Coordinate.{coordinateOf}
 use Rattle.track.specs.File.{limit}
@@ -24,6 +25,7 @@ use Rattle.track.specs.declared.answer.Reading.the-variants.{Points, Ref
 use Rattle.track.specs.declared.reader.Decoded.{Decoded}
 use Rattle.track.specs.declared.reader.Decoded.the-variants.{Whole, Refused as Bad}
 use Rattle.track.proofs.Laws.Judged.{also-answers, also-refuses, require-holds, require-fails}
+use Rattle.track.proofs.Laws.Scan.{coordinates-end, coordinates-turn}
 
 -- ---- number by number
 -- coordinates that stand before those of an outcome
@@ -57,8 +59,9 @@ module _ (bytes : List ℕ) (start n : ℕ) (list₀ list : List Float) (at befo
     one : coordinatesOf bytes at before other (n - i)
         ≡ also (coordinateOf bytes at before)
         (λ c. also (coordinatesOf bytes (c .next) other (c .pattern) (n - (i + 1))) (λ ws. answers (c .value ∷ ws)))
-    unfolding coordinatesOf
-    one = let e : n - i ≡ suc (n - (i + 1)) = omega arith in ap (coordinatesOf bytes at before other) e
+    one =
+        let e : n - i ≡ suc (n - (i + 1)) = omega arith in
+        ap (coordinatesOf bytes at before other) e ∙ coordinates-turn bytes at before other (n - (i + 1))
 
     pub decoding-turn : n ≤ length list₀ → (c : Coordinate) → answers c ≡ coordinateOf bytes at before
         → Decoding bytes start n list₀ (set list i (c .value)) (c .next) other (c .pattern) (i + 1)
@@ -79,15 +82,13 @@ module _ (bytes : List ℕ) (start n : ℕ) (list₀ list : List Float) (at befo
     decoding-refused number place e = ap (prepend (take i list)) (sym (one ∙ also-refuses _ (sym e))) ∙ d .all
 
   module _ (h : n ≤ i) where
-    none : coordinatesOf bytes at before other (n - i) ≡ coordinatesOf bytes at before other 0
-    none = let e : n - i ≡ 0 = omega arith in ap (coordinatesOf bytes at before other) e
+    none : coordinatesOf bytes at before other (n - i) ≡ also (require (leb (length bytes) at) bytesAfter at) (λ _. answers [])
+    none = let e : n - i ≡ 0 = omega arith in ap (coordinatesOf bytes at before other) e ∙ coordinates-end bytes at before other
 
     pub decoding-after : at < length bytes → refuses bytesAfter at ≡ coordinatesOf bytes start 0 0 n
-    unfolding coordinatesOf
     decoding-after l = ap (prepend (take i list)) (sym (none ∙ require-fails bytesAfter at _ (lt-leb _ _ l))) ∙ d .all
 
     pub decoding-whole : length bytes ≤ at → answers (take n list) ≡ coordinatesOf bytes start 0 0 n
-    unfolding coordinatesOf
     decoding-whole l =
         let e : n ≡ i = omega (arith, d .few) in
         ap (λ (k : ℕ). answers (take k list)) e ∙ ap answers (sym (append-nil (take i list)))

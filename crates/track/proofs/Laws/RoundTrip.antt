@@ -13,7 +13,8 @@ use lib.Seq.{drop-drop, drop-append-seam}
 use lib.Ieee.{Float, binary64, fits, ofBits, toBits}
 use lib.Ieee.Bits.{ofBits-toBits, toBits-ofBits, toBits-lt}
 use Rattle.double.specs.Outcome.{answers, oddLength, tooMany, notAccepted, noRoom, bytesAfter}
-use Rattle.point.specs.Accepted.{acceptedOf, acceptingFrom}
+use Rattle.double.specs.Search.{passingFrom}
+use Rattle.point.specs.Accepted.{acceptedOf}
 use Rattle.double.specs.Worth.{AllDoubles}
 use Rattle.track.specs.Number.{writtenOf, full, Bytes, beginsWith, placed, numberOf}
 use Rattle.track.specs.Difference.{storedOf, restoredOf}
@@ -28,6 +29,7 @@ use Rattle.track.proofs.Laws.Number.{number-written}
 use Rattle.track.proofs.Laws.Taken.{number-read}
 use Rattle.track.proofs.Laws.Difference.{restored-stored, restored-below, stored-below, stored-restored}
 use Rattle.track.proofs.Laws.Coordinate.{accepted-number, judged-accepted, coordinate-judged}
+use Rattle.track.proofs.Laws.Scan.{coordinates-end, coordinates-turn}
 use Rattle.track.proofs.Laws.File.{file-length}
 use Rattle.track.proofs.Laws.Write.{accepted-cons, write-whole}
 use Rattle.track.proofs.Laws.Read.{counted-read}
@@ -64,11 +66,11 @@ coordinate-back file start before x rest hb fit good e =
 coordinates-back : (points : List Float) (file : List ℕ) (start before other k : ℕ) → before < 2 ^ 64 → other < 2 ^ 64 → AllDoubles points
     → acceptedFrom k points ≡ answers tt → drop start file ≡ coordinateBytes before other points
     → coordinatesOf file start before other (length points) ≡ answers points
-unfolding coordinatesOf coordinateBytes acceptingFrom
+unfolding coordinateBytes passingFrom
 coordinates-back [] file start before other k hb ho fit good e =
     let none : length file - start ≡ 0 = sym (length-drop start file) ∙ ap length e in
     let over : length file ≤ start = omega arith in
-    require-holds bytesAfter start _ (le-leb _ _ over)
+    coordinates-end file start before other ∙ require-holds bytesAfter start _ (le-leb _ _ over)
 coordinates-back (x ∷ xs) file start before other k hb ho fit good e =
     let p = toBits binary64 x in
     let z = storedOf p before in
@@ -76,7 +78,8 @@ coordinates-back (x ∷ xs) file start before other k hb ho fit good e =
     let rest = coordinateBytes other p xs in
     let g = require-answered (acceptedOf x) notAccepted k _ (sym (accepted-cons k x xs) ∙ good) in
     let n = number-back file start z rest (stored-below p before hp hb) e in
-    also-answers _ (coordinate-back file start before x rest hb (fit 0) (g .0) e)
+    coordinates-turn file start before other (length xs)
+    ∙ also-answers _ (coordinate-back file start before x rest hb (fit 0) (g .0) e)
     ∙ also-answers _ (coordinates-back xs file (start + length (writtenOf z)) other p (suc k) ho hp (λ i. fit (suc i)) (g .1) (n .1))
 
 -- ---- a coordinate that was read
@@ -113,14 +116,14 @@ record Decoded (file : List ℕ) (start before other n : ℕ) (points : List Flo
 
 coordinates-taken : (n : ℕ) (file : List ℕ) (start before other : ℕ) (points : List Float) → Bytes file → before < 2 ^ 64 → other < 2 ^ 64
     → coordinatesOf file start before other n ≡ answers points → Decoded file start before other n points
-unfolding coordinatesOf coordinateBytes acceptingFrom
+unfolding coordinateBytes passingFrom
 coordinates-taken zero file start before other points all hb ho e =
-    let g = require-answered (leb (length file) start) bytesAfter start _ e in
+    let g = require-answered (leb (length file) start) bytesAfter start _ (sym (coordinates-end file start before other) ∙ e) in
     let none : [] ≡ points = cc (g .1) in
     subst (Decoded file start before other 0) none
     (record { many = refl; good = λ _. refl; same = drop-of-length-le file (leb-true (length file) start (g .0)) })
 coordinates-taken (suc n) file start before other points all hb ho e =
-    let a = also-answered (coordinateOf file start before) _ e in
+    let a = also-answered (coordinateOf file start before) _ (sym (coordinates-turn file start before other n) ∙ e) in
     let c = a .0 in
     let one = coordinate-taken file start before c all hb (a .1) in
     let b = also-answered (coordinatesOf file (c .next) other (c .pattern) n) _ (a .2) in
@@ -206,10 +209,6 @@ module _ (most : ℕ) where
   write-read file room points all e space h =
       let a = read-accepted file room points all e in
       write-whole most points space (a .even) (a .few) (a .good) (omega (arith, ap length (a .same))) ∙ ap answers (a .same)
-
-  pub points-even : (file : List ℕ) (room : ℕ) (points : List Float) → Bytes file → readOf most file room ≡ answers points
-      → length points % 2 ≡ 0
-  points-even file room points all e = read-accepted file room points all e .even
 
   -- So no two files hold the same points.
   pub file-once : (a b : List ℕ) (roomA roomB : ℕ) (points : List Float) → Bytes a → Bytes b

@@ -12,7 +12,8 @@ use lib.Seq.{drop-cons, sets, sets-eq}
 use lib.Ieee.{Float, nan, binary64, toBits}
 use Rattle.double.specs.Outcome.{Outcome, answers, refuses, Fixes, oddLength, tooMany, notAccepted, noRoom}
 use Rattle.double.proofs.Laws.Outcome.{refuses-once}
-use Rattle.point.specs.Accepted.{acceptedOf, acceptingFrom}
+use Rattle.double.specs.Search.{passingFrom}
+use Rattle.point.specs.Accepted.{acceptedOf}
 use Rattle.track.specs.Judged.{require, also, filled}
 use Rattle.track.specs.Number.{writtenOf}
 use Rattle.track.specs.Difference.{storedOf}
@@ -27,7 +28,7 @@ use Rattle.track.proofs.Laws.File.{bytes-more, bytes-end}
 -- ---- accepted coordinates
 pub accepted-cons : (k : ℕ) (x : Float) (xs : List Float)
     → acceptedFrom k (x ∷ xs) ≡ also (require (acceptedOf x) notAccepted k) (λ _. acceptedFrom (suc k) xs)
-unfolding acceptingFrom
+unfolding passingFrom
 accepted-cons k x xs = go (acceptedOf x)
   where
     go : (b : Bool) → cond b (acceptedFrom (k + 1) xs) (refuses notAccepted k) ≡ also (require b notAccepted k) (λ _. acceptedFrom (suc k) xs)
@@ -47,7 +48,7 @@ module _ (points : List Float) (i : ℕ) (h : i < length points) where
 
 -- where none is refused, each is accepted
 pub accepted-all : (k : ℕ) (points : List Float) → acceptedFrom k points ≡ answers tt → AllAccepted points
-unfolding acceptingFrom
+unfolding passingFrom
 accepted-all k [] e i h = absurd (omega arith)
 accepted-all k (x ∷ xs) e zero h = require-answered (acceptedOf x) notAccepted k _ (sym (accepted-cons k x xs) ∙ e) .0
 accepted-all k (x ∷ xs) e (suc i) h =
@@ -87,7 +88,7 @@ module _ (points : List Float) (len before other i : ℕ) (m : Measuring points 
     measuring-refused a = sym (also-refuses _ (m .rest ∙ accepted-stops points i h a))
 
   pub measuring-done : length points ≤ i → answers len ≡ measureOf points
-  unfolding measureOf acceptingFrom
+  unfolding measureOf passingFrom
   measuring-done h =
       let none : acceptedFrom 0 points ≡ answers tt = m .rest ∙ ap (acceptedFrom i) (drop-of-length-le points h) in
       let l : len ≡ length (coordinateBytes 0 0 points) = omega (arith, m .all, ap length (bytes-end points before other i nan h)) in

@@ -23,7 +23,7 @@ use Rattle.geometry.specs.declared.answer.Zone.the-variants.{At, Refused}
 use Rattle.geometry.proofs.Laws.Zone.{zone-small, zone-large}
 use Rattle.geometry.proofs.Laws.Outcomes.{side-outcomes, zone-outcomes}
 use Rattle.viewer.specs.Bytes.{pointOf, doublesFrom, doublesOf}
-use Rattle.viewer.specs.Entries.{base, entryOf, signAnswer, turnAnswer, sideEntry, zoneOfBytes, zoneEntry}
+use Rattle.viewer.specs.Entries.{base, entryOf, signAnswer, turnAnswer, sideEntry, SideEntrySays, zoneOfBytes, zoneEntry, ZoneEntrySays}
 use Rattle.viewer.specs.Entries.{isOneOf, sideAnswers, zoneAnswers}
 use Rattle.viewer.proofs.Laws.Bytes.{doubles-length}
 
@@ -125,8 +125,8 @@ zone-entry-answers px py bytes =
     (zone-outcomes Listed place-answers refl refl refl (λ place. refl) (doublesOf bytes) (pointOf px py))
 
 -- ---- no two results satisfy a promise
-pub side-entry-fixed : (px py qx qy rx ry : ℕ) → Fixes (λ (n : ℕ). n ≡ sideEntry px py qx qy rx ry)
-side-entry-fixed px py qx qy rx ry a b h k = h ∙ sym k
+pub ghomxarin-side-fixed : (px py qx qy rx ry : ℕ) → Fixes (SideEntrySays px py qx qy rx ry)
+ghomxarin-side-fixed px py qx qy rx ry a b h k = h ∙ sym k
 
-pub zone-entry-fixed : (px py : ℕ) (bytes : List ℕ) → Fixes (λ (n : ℕ). n ≡ zoneEntry px py bytes)
-zone-entry-fixed px py bytes a b h k = h ∙ sym k
+pub ghomxarin-zone-fixed : (px py : ℕ) (bytes : List ℕ) → Fixes (ZoneEntrySays px py bytes)
+ghomxarin-zone-fixed px py bytes a b h k = h ∙ sym k

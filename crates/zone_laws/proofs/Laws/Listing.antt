@@ -15,7 +15,7 @@ use Rattle.point.specs.declared.Point.{Point}
 use Rattle.geometry.specs.Zone.{cornersOf, Edge, edge, edgesFrom, edgesOf, onEdge, isUp, isDown, countOf}
 use Rattle.geometry.specs.Zone.{Lies, outside, border, inside, placeNumber, placeOf, zoneOf}
 use Rattle.zone_laws.specs.Listing.{flatOf, Turned, Relisted, turnedRound, Placed}
-use Rattle.zone_laws.proofs.Laws.Answered.{AllAccepted, zone-answered, answered-zone}
+use Rattle.geometry.proofs.Laws.Answered.{AllAccepted, zone-answered, answered-zone}
 use Rattle.zone_laws.proofs.Laws.Counts.{CountAlike, alike-place, count-append, exchanged-alike, on-round, up-round, down-round}
 
 -- ---- corners as a flat list, and back

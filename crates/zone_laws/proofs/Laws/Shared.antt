@@ -21,7 +21,7 @@ use Rattle.point.specs.Accepted.{reach, acceptedOf}
 use Rattle.point.proofs.Laws.Accepted.{accepted-real}
 use Rattle.geometry.specs.Zone.{cornersOf, Edge, edge, edgesFrom, edgesOf, isZero, sideOfEdge, between, onEdge, Lies, placeNumber, zoneOf}
 use Rattle.zone_laws.specs.Listing.{turnedRound, SameEnds}
-use Rattle.zone_laws.proofs.Laws.Answered.{AllAccepted, zone-answered}
+use Rattle.geometry.proofs.Laws.Answered.{AllAccepted, zone-answered}
 use Rattle.zone_laws.proofs.Laws.Counts.{on-round, on-border}
 
 -- ---- an edge of the zone with the point on it

@@ -21,12 +21,13 @@ use Rattle.double.specs.Worth.{worth, AllDoubles}
 use Rattle.double.proofs.Laws.Units.{Real}
 use Rattle.double.proofs.Laws.Worth.{worth-le}
 use Rattle.point.specs.declared.Point.{Point}
+use Rattle.double.proofs.Laws.Compare.{above-finite}
 use Rattle.geometry.specs.Determinant.{determinant}
 use Rattle.geometry.specs.Zone.{edge, edgesFrom, edgesOf, isPositive, isNegative, between, onEdge, isUp, isDown, countOf}
 use Rattle.geometry.specs.Zone.{inside, placeNumber, placeOf, zoneOf}
-use Rattle.geometry.proofs.Laws.Edges.{above-is, between-up}
+use Rattle.geometry.proofs.Laws.Edges.{between-up}
 use Rattle.zone_laws.specs.Listing.{flatOf, Relisted, SameEnds}
-use Rattle.zone_laws.proofs.Laws.Answered.{AllAccepted, zone-answered}
+use Rattle.geometry.proofs.Laws.Answered.{AllAccepted, zone-answered}
 use Rattle.zone_laws.proofs.Laws.Counts.{inside-odd, determinant-round, between-round, on-border}
 use Rattle.zone_laws.proofs.Laws.Listing.{corners-flat, start-place, back-place, relisted-itself, relisted-placed, placed-inside}
 use Rattle.zone_laws.proofs.Laws.Shared.{RealPoint, accepted-point}
@@ -81,7 +82,7 @@ edge-crosses p q z P Q Z =
     (λ (s t : Bool).
     cond ((le (p .y) (z .y) && s) && isPositive (determinant p q z)) 1 0
     + cond ((le (q .y) (z .y) && t) && isNegative (determinant p q z)) 1 0)
-    (above-is binary64 (q .y) (z .y) (Q .y) (Z .y)) (above-is binary64 (p .y) (z .y) (P .y) (Z .y))
+    (above-finite (q .y) (z .y) (Q .y .fin) (Z .y .fin)) (above-finite (p .y) (z .y) (P .y .fin) (Z .y .fin))
 
 -- ---- inside a triangle listed counter-clockwise
 module _ (p q r z : Point) (P : RealPoint p) (Q : RealPoint q) (R : RealPoint r) (Z : RealPoint z) where

@@ -1,13 +1,14 @@
 -- `zones::corner_fault` meets its contract. The loop's invariant: what is found from entry i on is what is found in the whole list.
 -- Assumes nothing.
-use Prim.Native.Nat.{_+_, _-_, _≤_}
-use mathlib.Core.Path.{_≡_, refl, sym, _∙_}
+use Prim.Native.Nat.{ℕ, _+_, _-_, _≤_}
+use mathlib.Core.Path.{_≡_, refl, sym, ap, _∙_}
+use native.Mathlib.Omega.{arith}
 use lib.ListN.{length, drop}
 use borrow.Author.Needs.{needs}
 use borrow.Author.Tests.{not-true, not-false}
 use Rattle.point.specs.Accepted.{acceptingFrom}
-use Rattle.geometry.specs.Zone.{cornersFault, faultSaid}
-use Rattle.geometry.proofs.Laws.Zone.{accepting-here, accepting-later, accepting-end}
+use Rattle.double.proofs.Laws.Search.{passing-here, passing-later, passing-end}
+use Rattle.geometry.specs.Parts.{cornersFault, faultSaid}
 use Rattle.geometry.proofs.zones.corner_fault.Statement.{statement}
 use Rattle.geometry.proofs.zones.corner_fault.Tie as tie
 use Rattle.geometry.proofs.zones.corner_fault.Reads as reads
@@ -19,6 +20,10 @@ Inv-loop corners i₀ i = (i ≤ length corners) × (acceptingFrom (i + 2) (drop
 
 abbrev μ-loop : tie.MeasureT-loop
 μ-loop corners i₀ i = length corners - i
+
+-- the next entry's place
+next : (i : ℕ) → i + 1 + 2 ≡ i + 2 + 1
+next i = omega arith
 
 loop-holds : tie.Need-loop-holds Inv-loop μ-loop
 loop-holds c = (search needs, refl)
@@ -39,7 +44,7 @@ returns : tie.Need-returns Inv-loop μ-loop
 unfolding faultSaid
 returns c =
     let turn = c .before .before .before in
-    sym (accepting-here 2 _ tt _ (turn .loop-test .taken) (sym (c .before .accepted .ensures) ∙ not-true _ (c .if1 .taken)))
+    sym (passing-here _ _ _ _ tt _ _ (turn .loop-test .taken) (sym (c .before .accepted .ensures) ∙ not-true _ (c .if1 .taken)))
     ∙ turn .before .loop .inv .1
 
 add-i : tie.Need-add-i Inv-loop μ-loop
@@ -52,13 +57,15 @@ loop-again : tie.Need-loop-again Inv-loop μ-loop
 loop-again c =
     let turn = c .before .before .before in (
       search needs,
-      sym (accepting-later 2 _ tt _ (turn .loop-test .taken) (sym (c .before .accepted .ensures) ∙ not-false _ (c .if1 .left)))
+      ap (λ (place : ℕ). acceptingFrom place (drop (turn .before .loop .i + 1) (turn .before .before .before .args .corners .now)) tt)
+          (next (turn .before .loop .i))
+          ∙ sym (passing-later _ _ _ _ tt _ _ (turn .loop-test .taken) (sym (c .before .accepted .ensures) ∙ not-false _ (c .if1 .left)))
           ∙ turn .before .loop .inv .1,
     )
 
 returns-2 : tie.Need-returns-2 Inv-loop μ-loop
 unfolding faultSaid
-returns-2 c = sym (accepting-end 2 _ tt _ (c .loop-test .left)) ∙ c .before .loop .inv .1
+returns-2 c = sym (passing-end _ _ _ tt _ _ (c .loop-test .left)) ∙ c .before .loop .inv .1
 
 pub corner-fault-spec : {M : Type 1} → statement M
 corner-fault-spec =

@@ -5,7 +5,8 @@ use native.Mathlib.Omega.{arith}
 use lib.ListN.{drop}
 use borrow.Author.Needs.{needs}
 use Rattle.geometry.specs.Side.{Accepted}
-use Rattle.geometry.specs.Zone.{edge, edgesOf, cornersOf, cornerAt, nextOf, crossingOf, withEdge, countsOf, isUp, isDown}
+use Rattle.geometry.specs.Zone.{edge, edgesOf, cornersOf, cornerAt, nextOf, crossingOf, isUp, isDown}
+use Rattle.geometry.specs.Parts.{withEdge, countsOf}
 use Rattle.geometry.specs.declared.zones.Counts.{Counts}
 use Rattle.geometry.proofs.Laws.Zone.{next-inside, counts-end, counts-before, count-few}
 use Rattle.geometry.proofs.zones.counted.Statement.{statement}

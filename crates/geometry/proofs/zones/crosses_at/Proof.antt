@@ -1,37 +1,46 @@
--- `zones::crosses_at` meets its contract: by the heights, and then by `crosses`. Assumes nothing.
-use mathlib.Core.Path.{sym, ap₂, subst, _∙_}
-use lib.Ieee.{Float}
+-- `zones::crosses_at` meets its contract: by the heights, and then by the sign. Assumes nothing.
+use mathlib.Core.Path.{_≡_, sym, ap, ap₂, _∙_}
+use mathlib.Core.Bool.{Bool}
+use lib.Ieee.{Float, le, lt}
 use borrow.Author.Needs.{needs}
-use borrow.Author.Tests.{not-true}
 use Rattle.point.specs.declared.Point.{Point}
-use Rattle.geometry.specs.Side.{Accepted}
-use Rattle.geometry.specs.Zone.{edge, crossingOf, straddling}
-use Rattle.geometry.proofs.Laws.Edges.{crossing-beside}
+use Rattle.geometry.specs.Zone.{Edge, edge, cornerAt, crossingOf}
+use Rattle.geometry.specs.Parts.{Rises, Falls}
+use Rattle.geometry.proofs.Laws.Edges.{crossing-under, crossing-over}
 use Rattle.geometry.proofs.zones.crosses_at.Statement.{statement}
 use Rattle.geometry.proofs.zones.crosses_at.Tie as tie
 use Rattle.geometry.proofs.zones.crosses_at.Reads as reads
 use Rattle.geometry.proofs.zones.crosses_at.Lts as lts
-use Rattle.geometry.proofs.edges.crosses.Reads as crosses-reads
-use Rattle.geometry.proofs.edges.straddles.Reads as straddles-reads
+use Rattle.geometry.proofs.edges.falling.Reads as falling-reads
+use Rattle.geometry.proofs.edges.rising.Reads as rising-reads
 use Rattle.geometry.proofs.zones.corner_at.Reads as corner-at-reads
-use Rattle.geometry.proofs.zones.height_at.Reads as height-at-reads
+use Rattle.geometry.proofs.zones.y_at.Reads as y-at-reads
 
-height-at-requires : tie.Need-height-at-requires
-height-at-requires c κs = search needs
+-- where the function begins, and the edge that it is asked of
+abbrev start : tie.After-y-at2 → tie.Start
+start c = c .before .before .before
 
-height-at-requires-2 : tie.Need-height-at-requires-2
-height-at-requires-2 c κs = search needs
+abbrev asked : tie.Start → Edge
+asked s = edge (cornerAt (s .args .corners .now) (s .args .k)) (cornerAt (s .args .corners .now) (s .args .j))
 
-straddles-requires : tie.Need-straddles-requires
-straddles-requires c κs = search needs
+-- a test of the code is one of the corner's height
+from-is : (c : tie.After-y-at2) {b : Bool} → (let s = start c in le (c .before .y-at .result) (s .args .p .y) ≡ b
+    → le (asked s .from .y) (s .args .p .y) ≡ b)
+from-is c e = let s = start c in ap (λ (y : Float). le y (s .args .p .y)) (sym (c .before .y-at .ensures)) ∙ e
 
-returns : tie.Need-returns
-returns c =
-    let h = c .before .before in
-    let i = h .before .before .before .args in
-    crossing-beside _ _
-    (ap₂ (λ (a b : Float). straddling a b (i .p .y)) (sym (h .before .height-at .ensures)) (sym (h .height-at2 .ensures))
-    ∙ sym (c .before .straddles .ensures) ∙ not-true _ (c .if1 .taken))
+below-is : (c : tie.After-y-at2) {b : Bool} → (let s = start c in lt (s .args .p .y) (c .y-at2 .result) ≡ b
+    → lt (s .args .p .y) (asked s .to .y) ≡ b)
+below-is c e = let s = start c in ap (λ (y : Float). lt (s .args .p .y) y) (sym (c .y-at2 .ensures)) ∙ e
+
+to-is : (c : tie.After-y-at2) {b : Bool} → (let s = start c in le (c .y-at2 .result) (s .args .p .y) ≡ b
+    → le (asked s .to .y) (s .args .p .y) ≡ b)
+to-is c e = let s = start c in ap (λ (y : Float). le y (s .args .p .y)) (sym (c .y-at2 .ensures)) ∙ e
+
+y-at-requires : tie.Need-y-at-requires
+y-at-requires c κs = search needs
+
+y-at-requires-2 : tie.Need-y-at-requires-2
+y-at-requires-2 c κs = search needs
 
 corner-at-requires : tie.Need-corner-at-requires
 corner-at-requires c κs = search needs
@@ -39,29 +48,69 @@ corner-at-requires c κs = search needs
 corner-at-requires-2 : tie.Need-corner-at-requires-2
 corner-at-requires-2 c κs = search needs
 
-crosses-requires : tie.Need-crosses-requires
-crosses-requires c κs =
-    let s = c .before .before .before .before .before .before .before in (
-      subst Accepted (sym (c .before .corner-at .ensures)) (s .pre .1 .0),
-      subst Accepted (sym (c .corner-at2 .ensures)) (s .pre .1 .1),
-      s .pre .1 .2,
-    )
+rising-requires : tie.Need-rising-requires
+rising-requires c κs =
+    let h = c .before .before .before .before .before .before in
+    let s = start h in
+    let rises : Rises (asked s) (s .args .p) = record {
+      from = from-is h (c .before .before .before .before .if1 .taken);
+      to = below-is h (c .before .before .if2 .taken);
+    } in
+    rw (c .before .corner-at .ensures, c .corner-at2 .ensures) (s .pre .1 .0, s .pre .1 .1, s .pre .1 .2, rises)
+
+returns : tie.Need-returns
+returns c =
+    let s = start (c .before .before .before .before .before .before .before) in
+    c .rising .ensures
+    ∙ ap₂ (λ (a b : Point). crossingOf (edge a b) (s .args .p)) (c .before .before .corner-at .ensures) (c .before .corner-at2 .ensures)
 
 returns-2 : tie.Need-returns-2
 returns-2 c =
-    let i = c .before .before .before .before .before .before .before .before .args in
-    c .crosses .ensures
-    ∙ ap₂ (λ (a b : Point). crossingOf (edge a b) (i .p)) (c .before .before .corner-at .ensures) (c .before .corner-at2 .ensures)
+    let h = c .before .before .before .before in
+    let s = start h in
+    crossing-under (asked s) _ (s .pre .1 .0) (s .pre .1 .2) (from-is h (c .before .before .if1 .taken)) (below-is h (c .if2 .left))
+
+corner-at-requires-3 : tie.Need-corner-at-requires-3
+corner-at-requires-3 c κs = search needs
+
+corner-at-requires-4 : tie.Need-corner-at-requires-4
+corner-at-requires-4 c κs = search needs
+
+falling-requires : tie.Need-falling-requires
+falling-requires c κs =
+    let h = c .before .before .before .before .before .before in
+    let s = start h in
+    let falls : Falls (asked s) (s .args .p) = record {
+      from = from-is h (c .before .before .before .before .if1 .left);
+      to = to-is h (c .before .before .if3 .taken);
+    } in
+    rw (c .before .corner-at3 .ensures, c .corner-at4 .ensures) (s .pre .1 .0, s .pre .1 .1, s .pre .1 .2, falls)
+
+returns-3 : tie.Need-returns-3
+returns-3 c =
+    let s = start (c .before .before .before .before .before .before .before) in
+    c .falling .ensures
+    ∙ ap₂ (λ (a b : Point). crossingOf (edge a b) (s .args .p)) (c .before .before .corner-at3 .ensures) (c .before .corner-at4 .ensures)
+
+returns-4 : tie.Need-returns-4
+returns-4 c =
+    let h = c .before .before .before .before in
+    let s = start h in
+    crossing-over (asked s) _ (s .pre .1 .0) (s .pre .1 .2) (from-is h (c .before .before .if1 .left)) (to-is h (c .if3 .left))
 
 pub crosses-at-spec : {M : Type 1} → statement M
 crosses-at-spec =
     tie.close
     (tie.spec
-    height-at-requires
-    height-at-requires-2
-    straddles-requires
-    returns
+    y-at-requires
+    y-at-requires-2
     corner-at-requires
     corner-at-requires-2
-    crosses-requires
-    returns-2)
+    rising-requires
+    returns
+    returns-2
+    corner-at-requires-3
+    corner-at-requires-4
+    falling-requires
+    returns-3
+    returns-4)

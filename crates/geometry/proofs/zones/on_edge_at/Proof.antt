@@ -1,37 +1,65 @@
--- `zones::on_edge_at` meets its contract: by the heights, and then by `on_edge`. Assumes nothing.
-use mathlib.Core.Path.{sym, ap₂, subst, _∙_}
+-- `zones::on_edge_at` meets its contract: by the box, and then by the sign. Assumes nothing.
+use mathlib.Core.Path.{_≡_, sym, ap₂, _∙_}
+use mathlib.Core.Bool.{Bool}
 use lib.Ieee.{Float}
 use borrow.Author.Needs.{needs}
-use borrow.Author.Tests.{not-true}
+use borrow.Author.Tests.{not-true, not-false}
 use Rattle.point.specs.declared.Point.{Point}
-use Rattle.geometry.specs.Side.{Accepted}
-use Rattle.geometry.specs.Zone.{edge, onEdge, between}
-use Rattle.geometry.proofs.Laws.Edges.{edge-apart-y}
+use Rattle.geometry.specs.Zone.{Edge, edge, cornerAt, onEdge, between}
+use Rattle.geometry.specs.Parts.{InBox}
+use Rattle.geometry.proofs.Laws.Edges.{edge-apart-x, edge-apart-y}
 use Rattle.geometry.proofs.zones.on_edge_at.Statement.{statement}
 use Rattle.geometry.proofs.zones.on_edge_at.Tie as tie
 use Rattle.geometry.proofs.zones.on_edge_at.Reads as reads
 use Rattle.geometry.proofs.zones.on_edge_at.Lts as lts
 use Rattle.geometry.proofs.edges.lies_between.Reads as lies-between-reads
-use Rattle.geometry.proofs.edges.on_edge.Reads as on-edge-reads
+use Rattle.geometry.proofs.edges.meets.Reads as meets-reads
 use Rattle.geometry.proofs.zones.corner_at.Reads as corner-at-reads
-use Rattle.geometry.proofs.zones.height_at.Reads as height-at-reads
+use Rattle.geometry.proofs.zones.x_at.Reads as x-at-reads
+use Rattle.geometry.proofs.zones.y_at.Reads as y-at-reads
 
-height-at-requires : tie.Need-height-at-requires
-height-at-requires c κs = search needs
+-- the edge that it is asked of
+abbrev asked : tie.Start → Edge
+asked s = edge (cornerAt (s .args .corners .now) (s .args .k)) (cornerAt (s .args .corners .now) (s .args .j))
 
-height-at-requires-2 : tie.Need-height-at-requires-2
-height-at-requires-2 c κs = search needs
+-- what each test says of the corners' coordinates
+y-is : (c : tie.After-lies-between) {b : Bool} → c .lies-between .result ≡ b
+    → (let s = c .before .before .before .before in between (asked s .from .y) (asked s .to .y) (s .args .p .y) ≡ b)
+y-is c e =
+    let s = c .before .before .before .before in
+    ap₂ (λ (a b : Float). between a b (s .args .p .y)) (sym (c .before .before .y-at .ensures)) (sym (c .before .y-at2 .ensures))
+    ∙ sym (c .lies-between .ensures) ∙ e
+
+x-is : (c : tie.After-lies-between2) {b : Bool} → c .lies-between2 .result ≡ b
+    → (let s = c .before .before .before .before .before .before .before .before in between (asked s .from .x) (asked s .to .x) (s .args .p .x) ≡ b)
+x-is c e =
+    let s = c .before .before .before .before .before .before .before .before in
+    ap₂ (λ (a b : Float). between a b (s .args .p .x)) (sym (c .before .before .x-at .ensures)) (sym (c .before .x-at2 .ensures))
+    ∙ sym (c .lies-between2 .ensures) ∙ e
+
+y-at-requires : tie.Need-y-at-requires
+y-at-requires c κs = search needs
+
+y-at-requires-2 : tie.Need-y-at-requires-2
+y-at-requires-2 c κs = search needs
 
 lies-between-requires : tie.Need-lies-between-requires
 lies-between-requires c κs = search needs
 
 returns : tie.Need-returns
-returns c =
-    let h = c .before .before in
-    let i = h .before .before .before .args in
-    edge-apart-y _ _
-    (ap₂ (λ (a b : Float). between a b (i .p .y)) (sym (h .before .height-at .ensures)) (sym (h .height-at2 .ensures))
-    ∙ sym (c .before .lies-between .ensures) ∙ not-true _ (c .if1 .taken))
+returns c = edge-apart-y (asked (c .before .before .before .before .before)) _ (y-is (c .before) (not-true _ (c .if1 .taken)))
+
+x-at-requires : tie.Need-x-at-requires
+x-at-requires c κs = search needs
+
+x-at-requires-2 : tie.Need-x-at-requires-2
+x-at-requires-2 c κs = search needs
+
+lies-between-requires-2 : tie.Need-lies-between-requires-2
+lies-between-requires-2 c κs = search needs
+
+returns-2 : tie.Need-returns-2
+returns-2 c = edge-apart-x (asked (c .before .before .before .before .before .before .before .before .before)) _ (x-is (c .before) (not-true _ (c .if2 .taken)))
 
 corner-at-requires : tie.Need-corner-at-requires
 corner-at-requires c κs = search needs
@@ -39,29 +67,35 @@ corner-at-requires c κs = search needs
 corner-at-requires-2 : tie.Need-corner-at-requires-2
 corner-at-requires-2 c κs = search needs
 
-on-edge-requires : tie.Need-on-edge-requires
-on-edge-requires c κs =
-    let s = c .before .before .before .before .before .before .before in (
-      subst Accepted (sym (c .before .corner-at .ensures)) (s .pre .1 .0),
-      subst Accepted (sym (c .corner-at2 .ensures)) (s .pre .1 .1),
-      s .pre .1 .2,
-    )
+meets-requires : tie.Need-meets-requires
+meets-requires c κs =
+    let h = c .before .before .before in
+    let s = h .before .before .before .before .before .before .before .before in
+    let box : InBox (asked s) (s .args .p) = record {
+      x = x-is h (not-false _ (c .before .before .if2 .left));
+      y = y-is (h .before .before .before .before) (not-false _ (h .before .before .before .if1 .left));
+    } in
+    rw (c .before .corner-at .ensures, c .corner-at2 .ensures) (s .pre .1 .0, s .pre .1 .1, s .pre .1 .2, box)
 
-returns-2 : tie.Need-returns-2
-returns-2 c =
-    let i = c .before .before .before .before .before .before .before .before .args in
-    c .on-edge .ensures
-    ∙ ap₂ (λ (a b : Point). onEdge (edge a b) (i .p)) (c .before .before .corner-at .ensures) (c .before .corner-at2 .ensures)
+returns-3 : tie.Need-returns-3
+returns-3 c =
+    let s = c .before .before .before .before .before .before .before .before .before .before .before .before in
+    c .meets .ensures
+    ∙ ap₂ (λ (a b : Point). onEdge (edge a b) (s .args .p)) (c .before .before .corner-at .ensures) (c .before .corner-at2 .ensures)
 
 pub on-edge-at-spec : {M : Type 1} → statement M
 on-edge-at-spec =
     tie.close
     (tie.spec
-    height-at-requires
-    height-at-requires-2
+    y-at-requires
+    y-at-requires-2
     lies-between-requires
     returns
+    x-at-requires
+    x-at-requires-2
+    lies-between-requires-2
+    returns-2
     corner-at-requires
     corner-at-requires-2
-    on-edge-requires
-    returns-2)
+    meets-requires
+    returns-3)

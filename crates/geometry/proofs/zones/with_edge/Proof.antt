@@ -1,7 +1,7 @@
 -- `zones::with_edge` meets its contract: by the case of the crossing. Assumes nothing.
 use mathlib.Core.Path.{sym, ap}
 use borrow.Author.Needs.{needs}
-use Rattle.geometry.specs.Zone.{withEdge}
+use Rattle.geometry.specs.Parts.{withEdge}
 use Rattle.geometry.proofs.zones.with_edge.Statement.{statement}
 use Rattle.geometry.proofs.zones.with_edge.Tie as tie
 use Rattle.geometry.proofs.zones.with_edge.Reads as reads

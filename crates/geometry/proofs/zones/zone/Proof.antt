@@ -3,7 +3,8 @@ use mathlib.Core.Path.{sym, ap, _∙_}
 use borrow.Author.Needs.{needs}
 use borrow.Author.Tests.{not-true, not-false}
 use Rattle.geometry.specs.Side.{Accepted}
-use Rattle.geometry.specs.Zone.{zoneSaid, faultSaid}
+use Rattle.geometry.specs.Zone.{zoneSaid}
+use Rattle.geometry.specs.Parts.{faultSaid}
 use Rattle.geometry.proofs.Laws.Zone.{zone-odd, zone-small, zone-large, zone-x, zone-y, zone-corner, zone-place, zone-zoned}
 use Rattle.geometry.proofs.zones.zone.Statement.{statement}
 use Rattle.geometry.proofs.zones.zone.Tie as tie

@@ -6,7 +6,8 @@ use lib.ListN.{length, drop}
 use borrow.Author.Needs.{needs}
 use borrow.Author.Tests.{not-true, not-false}
 use Rattle.sum.specs.Refused.{checkedFrom, faultOf, found}
-use Rattle.sum.proofs.Laws.Refused.{checked-long, checked-short, checked-here, checked-later, checked-end}
+use Rattle.double.proofs.Laws.Search.{passing-here, passing-later, passing-end}
+use Rattle.sum.proofs.Laws.Refused.{checked-long, checked-short}
 use Rattle.sum.proofs.fault.first_fault.Statement.{statement}
 use Rattle.sum.proofs.fault.first_fault.Tie as tie
 use Rattle.sum.proofs.fault.first_fault.Reads as reads
@@ -39,7 +40,7 @@ returns-2 : tie.Need-returns-2 Inv-loop μ-loop
 unfolding found
 returns-2 c =
     let turn = c .before .before .before in
-    sym (checked-here _ tt _ (turn .loop-test .taken) (sym (c .before .is-finite .ensures) ∙ not-true _ (c .if2 .taken))) ∙ turn .before .loop .inv .1
+    sym (passing-here _ _ _ _ tt _ _ (turn .loop-test .taken) (sym (c .before .is-finite .ensures) ∙ not-true _ (c .if2 .taken))) ∙ turn .before .loop .inv .1
 
 add-i : tie.Need-add-i Inv-loop μ-loop
 add-i c = search needs
@@ -50,11 +51,11 @@ loop-less c = search needs
 loop-again : tie.Need-loop-again Inv-loop μ-loop
 loop-again c =
     let turn = c .before .before .before in
-    (search needs, sym (checked-later _ tt _ (turn .loop-test .taken) (sym (c .before .is-finite .ensures) ∙ not-false _ (c .if2 .left))) ∙ turn .before .loop .inv .1)
+    (search needs, sym (passing-later _ _ _ _ tt _ _ (turn .loop-test .taken) (sym (c .before .is-finite .ensures) ∙ not-false _ (c .if2 .left))) ∙ turn .before .loop .inv .1)
 
 returns-3 : tie.Need-returns-3 Inv-loop μ-loop
 unfolding found
-returns-3 c = sym (checked-end _ tt _ (c .loop-test .left)) ∙ c .before .loop .inv .1
+returns-3 c = sym (passing-end _ _ _ tt _ _ (c .loop-test .left)) ∙ c .before .loop .inv .1
 
 pub first-fault-spec : {M : Type 1} → statement M
 first-fault-spec =

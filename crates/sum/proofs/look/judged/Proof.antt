@@ -1,4 +1,5 @@
 -- `sum::look::judged` meets its contract: by the case of the look, and the two comparisons. Assumes nothing.
+use mathlib.Core.Path.{sym, _∙_}
 use borrow.Author.Needs.{needs}
 use Rattle.sum.proofs.Laws.Look.{verdict-neither, verdict-positive, verdict-negative}
 use Rattle.sum.proofs.Laws.Look.{verdict-plus, verdict-minus, verdict-undecided}
@@ -6,6 +7,7 @@ use Rattle.sum.proofs.look.judged.Statement.{statement}
 use Rattle.sum.proofs.look.judged.Tie as tie
 use Rattle.sum.proofs.look.judged.Reads as reads
 use Rattle.sum.proofs.look.judged.Lts as lts
+use Rattle.sum.proofs.look.exceeds.Reads as exceeds-reads
 
 enum-told : tie.Need-enum-told
 enum-told c = search needs
@@ -19,17 +21,20 @@ enum-told-3 c = search needs
 enum-known-found : tie.Need-enum-known-found
 enum-known-found c = search needs
 
-int-to-float-if1 : tie.Need-int-to-float-if1
-int-to-float-if1 c = search needs
+exceeds-requires : tie.Need-exceeds-requires
+exceeds-requires c κs = search needs
 
 returns : tie.Need-returns
-returns c = verdict-plus _ _ (c .before .before .before .found .given .1) (c .if1 .taken)
+returns c = verdict-plus _ _ (c .before .before .before .found .given .1) (sym (c .before .exceeds .ensures) ∙ c .if1 .taken)
 
-int-to-float-if2 : tie.Need-int-to-float-if2
-int-to-float-if2 c = search needs
+exceeds-requires-2 : tie.Need-exceeds-requires-2
+exceeds-requires-2 c κs = search needs
 
 returns-2 : tie.Need-returns-2
-returns-2 c = verdict-minus _ _ (c .before .before .before .before .before .found .given .1) (c .before .before .if1 .left) (c .if2 .taken)
+returns-2 c =
+    let first = c .before .before in
+    verdict-minus _ _ (first .before .before .before .found .given .1) (sym (first .before .exceeds .ensures) ∙ first .if1 .left)
+    (sym (c .before .exceeds2 .ensures) ∙ c .if2 .taken)
 
 returns-3 : tie.Need-returns-3
 returns-3 c = verdict-neither _ _ (c .enum-told .given .1)
@@ -41,7 +46,10 @@ returns-5 : tie.Need-returns-5
 returns-5 c = verdict-negative _ _ (c .enum-told3 .given .1)
 
 returns-6 : tie.Need-returns-6
-returns-6 c = verdict-undecided _ _ (c .before .before .before .before .before .found .given .1) (c .before .before .if1 .left) (c .if2 .left)
+returns-6 c =
+    let first = c .before .before in
+    verdict-undecided _ _ (first .before .before .before .found .given .1) (sym (first .before .exceeds .ensures) ∙ first .if1 .left)
+    (sym (c .before .exceeds2 .ensures) ∙ c .if2 .left)
 
 pub judged-spec : {M : Type 1} → statement M
 judged-spec =
@@ -51,9 +59,9 @@ judged-spec =
     enum-told-2
     enum-told-3
     enum-known-found
-    int-to-float-if1
+    exceeds-requires
     returns
-    int-to-float-if2
+    exceeds-requires-2
     returns-2
     returns-3
     returns-4

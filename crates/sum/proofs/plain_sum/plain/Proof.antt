@@ -1,7 +1,8 @@
 -- `sum::plain_sum::plain` meets its contract.
 use Rattle.double.specs.Outcome.{answers}
 use Rattle.double.proofs.Laws.Apart.{Means, taken-means, taken-finite, taken-refused}
-use Rattle.sum.proofs.Laws.Refused.{checked-long, checked-short, checked-here, checked-later, checked-end}
+use Rattle.double.proofs.Laws.Search.{passing-here, passing-later, passing-end}
+use Rattle.sum.proofs.Laws.Refused.{checked-long, checked-short}
 use Prim.Native.Nat.{_≤_, _-_}
 use mathlib.Core.Path.{_≡_, refl, sym, ap, _∙_}
 use lib.Ieee.{nan}
@@ -68,7 +69,7 @@ returns-2 c =
     let taken = c .before .before in
     let turn = taken .before .before in
     let none = taken-refused _ _ (taken .take-apart .ensures) _ (c .enum-told .given .1) in
-    sym (checked-here _ _ _ (turn .loop-test .taken) none) ∙ turn .before .loop .inv .2
+    sym (passing-here _ _ _ _ _ _ _ (turn .loop-test .taken) none) ∙ turn .before .loop .inv .2
 
 slice-aggregate-put : tie.Need-slice-aggregate-put Inv-loop μ-loop
 slice-aggregate-put c = search needs
@@ -94,7 +95,7 @@ loop-again c =
     let there = taken-finite _ _ (taken .take-apart .ensures) _ (parted .p .given .1) in (
       c .before .put .kept .0 ∙ here .inv .0,
       omega arith,
-      sym (checked-later _ _ _ (turn .loop-test .taken) there) ∙ here .inv .2,
+      sym (passing-later _ _ _ _ _ _ _ (turn .loop-test .taken) there) ∙ here .inv .2,
       held-next _ _ _ _ _ (turn .loop-test .taken) (parts-mean parted) (here .inv .0) (c .before .put .ensures) (here .inv .3),
     )
 
@@ -113,7 +114,7 @@ returns-3 c =
     let short : here .i ≤ limit = omega arith in
     ap (λ (s : Sign). answers (signNumber s)) (c .sign-of .ensures .sign-is)
     ∙ ap answers (held-sign _ _ _ (left .loop-test .left) short (c .sign-of .ensures .below) (here .inv .3))
-    ∙ sym (checked-end _ _ _ (left .loop-test .left))
+    ∙ sym (passing-end _ _ _ _ _ _ (left .loop-test .left))
     ∙ here .inv .2
 
 pub plain-spec : {M : Type 1} → statement M

@@ -3,7 +3,7 @@ use mathlib.Core.Path.{sym, ap, _∙_}
 use borrow.Author.Needs.{needs}
 use Rattle.sum.specs.Refused.{found}
 use Rattle.sum.proofs.Laws.Refused.{fault-none}
-use Rattle.sum.proofs.Laws.Running.{run-refused, run-done}
+use Rattle.sum.proofs.Laws.Running.{run-says-refused, run-says-done}
 use Rattle.sum.proofs.running.run.Statement.{statement}
 use Rattle.sum.proofs.running.run.Tie as tie
 use Rattle.sum.proofs.running.run.Reads as reads
@@ -31,7 +31,7 @@ same-length c = search needs
 returns : tie.Need-returns
 returns c =
     let search = c .before .before .before in
-    run-refused _ _ _ (sym (ap found (c .before .r .given .1)) ∙ search .first-fault .ensures)
+    run-says-refused _ _ _ (sym (ap found (c .before .r .given .1)) ∙ search .first-fault .ensures)
 
 same-length-2 : tie.Need-same-length-2
 same-length-2 c = search needs
@@ -40,7 +40,7 @@ returns-2 : tie.Need-returns-2
 returns-2 c =
     let done = c .before .before in
     let search = done .before .before .before .before in
-    run-done _ _ _ _ (sym (ap found (done .before .before .enum-told .given .1)) ∙ search .first-fault .ensures) (done .run-on .ensures)
+    run-says-done _ _ _ _ (sym (ap found (done .before .before .enum-told .given .1)) ∙ search .first-fault .ensures) (done .run-on .ensures)
 
 pub run-spec : {M : Type 1} → statement M
 run-spec =
