@@ -1,58 +1,69 @@
-// The answer line of each whole line.
+// The reply to each whole line.
+use crate::held::List;
+use crate::held::Token;
 use crate::line::Line;
 use crate::line::Question;
+use crate::line::ended;
 use crate::numbers;
-use crate::out::put;
-use crate::out::put_text;
 use crate::part::first;
+use crate::reply;
+use crate::reply::Reply;
 use crate::sides;
 use crate::sums;
 use crate::tracks;
-use crate::word::Word;
+use crate::word;
 
-// Puts the answer of a whole line out. Of a line that is copied only the line end is left.
-pub fn answer(line: Line, token: &mut [u8], list: &mut [f64], out: &mut [u8], len: usize) -> usize {
-    match line {
-        Line::Empty => put(out, len, b'\n'),
-        Line::Comment => put(out, len, b'\n'),
-        Line::Unclear => unclear(out, len),
-        Line::Naming(_) => unclear(out, len),
-        Line::Asking(q) => asked(q, token, list, out, len),
-        Line::Reading(f) => tracks::read(f.room, first(token, f.digits / 2), list, out, len),
+// The reply to a line that has ended. Of a line that is copied only the line end is left.
+pub fn answer(line: Line, token: &mut Token, list: &mut List) -> Reply {
+    let whole = ended(line, token, list);
+    if let Line::Asking(q) = whole {
+        return asked(q, token, list);
     }
+    if let Line::Reading(f) = whole {
+        return tracks::read(f.room, first(token, f.digits / 2), list);
+    }
+    unasked(whole)
 }
 
-pub fn unclear(out: &mut [u8], len: usize) -> usize {
-    put_text(out, len, b"unclear\n")
+// A line that asks nothing.
+fn unasked(line: Line) -> Reply {
+    match line {
+        Line::Empty | Line::Comment => reply::blank(),
+        _ => reply::unclear(),
+    }
 }
 
 // The doubles of a question are the first of the list, so that no more were taken than it holds.
-fn asked(q: Question, token: &mut [u8], list: &mut [f64], out: &mut [u8], len: usize) -> usize {
+fn asked(q: Question, token: &mut [u8], list: &mut [f64]) -> Reply {
     let n = q.taken;
     if list.len() < n {
-        return unclear(out, len);
+        return reply::unclear();
     }
     if !q.counted {
-        return unclear(out, len);
+        return reply::unclear();
     }
-    let word = q.word;
-    if let Word::Write = word {
-        return tracks::write(q.count, &list[..n], token, out, len);
+    if q.word == word::WRITE {
+        return tracks::write(q.count, &list[..n], token);
     }
-    told(word, q.count, &mut list[..n], out, len)
+    told(q.word, q.count, &mut list[..n])
 }
 
-// A question of doubles alone, and of a count where its word takes one.
-fn told(word: Word, count: u32, list: &mut [f64], out: &mut [u8], len: usize) -> usize {
+// A question that a run may alter the doubles of.
+fn told(word: usize, count: u32, list: &mut [f64]) -> Reply {
+    if word == word::RUN {
+        return sums::run(list, count);
+    }
+    looked(word, list)
+}
+
+// A question of doubles alone.
+fn looked(word: usize, list: &[f64]) -> Reply {
     match word {
-        Word::Apart => numbers::apart(list, out, len),
-        Word::Run => sums::run(list, count, out, len),
-        Word::Ceiling => sums::ceiling(list, out, len),
-        Word::Plain => sums::plain(list, out, len),
-        Word::Side => sides::side(list, out, len),
-        Word::Zone => sides::zone(list, out, len),
-        Word::Write => unclear(out, len),
-        Word::Read => unclear(out, len),
-        Word::None => unclear(out, len),
+        word::APART => numbers::apart(list),
+        word::CEILING => sums::ceiling(list),
+        word::PLAIN => sums::plain(list),
+        word::SIDE => sides::side(list),
+        word::ZONE => sides::zone(list),
+        _ => reply::unclear(),
     }
 }

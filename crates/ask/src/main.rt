@@ -1,24 +1,25 @@
 // The line tool: reads questions from standard input, one to a line, and writes one answer line for each, in order, until the input ends.
 mod answer;
+mod held;
 mod line;
 mod numbers;
 mod numeral;
 mod out;
 mod part;
+mod reply;
 mod sides;
 mod sums;
 mod tracks;
 mod word;
 
+use held::Input;
+use held::List;
+use held::Out;
+use held::Token;
 use libc::EINTR;
 use libc::STDIN_FILENO;
 use line::Line;
-
-// Bytes of a word or a file that are held, and the most that are lent to the writer. (A double's word has 16, and of a file 10,243 are enough.)
-const TOKEN: usize = 10300;
-
-// Doubles of a question that are held, and the most that are lent to the reader. (Two more than the longest list that is accepted are enough.)
-const HELD: usize = 1100;
+use part::first;
 
 // What is left after some bytes of input: the line that they end in, and how many bytes of output wait.
 struct Left {
@@ -26,103 +27,104 @@ struct Left {
     len: usize,
 }
 
-// One byte of input after a line and `len` bytes of output: a line end has the line answered.
-fn fed(line: Line, b: u8, token: &mut [u8], list: &mut [f64], out: &mut [u8], len: usize) -> Left {
+// One byte of input more: a line end has the line answered.
+fn fed(left: Left, b: u8, token: &mut Token, list: &mut List, out: &mut Out) -> Left {
+    let line = left.line;
     if b == b'\n' {
-        let whole = line::ended(line, token, list);
         return Left {
             line: Line::Empty,
-            len: answer::answer(whole, token, list, out, len),
+            len: replied(line, token, list, out, left.len),
         };
     }
     let more = line::next(line, b, token, list);
-    if let Line::Comment = more {
-        return Left {
-            line: more,
-            len: out::put(out, len, b),
-        };
-    }
     Left {
         line: more,
-        len: len,
+        len: copied(more, b, out, left.len),
     }
 }
 
-// Takes the bytes of `input` one by one, and answers each line that ends in them.
-fn feed(line: Line, input: &[u8], token: &mut [u8], list: &mut [f64], out: &mut [u8]) -> Left {
-    let mut line = line;
-    let mut len: usize = 0;
+// The answer of a whole line, put out.
+fn replied(line: Line, token: &mut Token, list: &mut List, out: &mut Out, len: usize) -> usize {
+    let reply = answer::answer(line, token, list);
+    out::put_reply(out, len, reply, token, list)
+}
+
+// The last byte of a line, put out where the line is copied.
+fn copied(line: Line, b: u8, out: &mut Out, len: usize) -> usize {
+    if let Line::Comment = line {
+        return out::put(out, len, b);
+    }
+    len
+}
+
+// The first n bytes of `input` more, one by one.
+fn feed(
+    left: Left,
+    input: &Input,
+    n: usize,
+    token: &mut Token,
+    list: &mut List,
+    out: &mut Out,
+) -> Left {
+    let bytes = first(input, n);
+    let mut left = left;
     let mut i: usize = 0;
-    while i < input.len() {
-        let left = fed(line, input[i], token, list, out, len);
-        line = left.line;
-        len = left.len;
+    while i < bytes.len() {
+        left = fed(left, bytes[i], token, list, out);
         i += 1;
     }
-    Left {
-        line: line,
-        len: len,
-    }
+    left
 }
 
 // The last line where it has no line end.
-fn last(line: Line, token: &mut [u8], list: &mut [f64], out: &mut [u8]) {
+fn last(line: Line, token: &mut Token, list: &mut List, out: &mut Out) {
     if let Line::Empty = line {
         return;
     }
-    let whole = line::ended(line, token, list);
-    let len = answer::answer(whole, token, list, out, 0);
+    let len = replied(line, token, list, out, 0);
     out::flush(out, len);
 }
 
-// What one read of the input came to.
-enum Input {
-    // The line that the bytes read end in.
-    On(Line),
-    // The input has ended, or can not be read, or nothing can be written.
-    Over,
-}
-
-// Reads once, and writes what that answers, so that nothing waits while the next read does.
-fn turn(line: Line, input: &mut [u8], token: &mut [u8], list: &mut [f64], out: &mut [u8]) -> Input {
-    let got = libc::read(STDIN_FILENO, input);
-    if got < 0 {
-        if os::errno() == EINTR {
-            return Input::On(line);
+// How many bytes one read of the input gives; none where it has ended, or can not be read.
+fn filled(input: &mut Input) -> usize {
+    let mut tries = u64::MAX;
+    while 0 < tries {
+        tries -= 1;
+        let got = libc::read(STDIN_FILENO, input);
+        if 0 <= got {
+            return io::count(got, input);
         }
-        last(line, token, list, out);
-        return Input::Over;
+        if os::errno() != EINTR {
+            return 0;
+        }
     }
-    let n = io::count(got, input);
-    if n == 0 {
-        last(line, token, list, out);
-        return Input::Over;
-    }
-    let left = feed(line, &input[..n], token, list, out);
-    if out::flush(out, left.len) {
-        let more = left.line;
-        return Input::On(more);
-    }
-    Input::Over
+    0
 }
 
-// Reads until the input is over. (The count of turns, which no input reaches, is why this ends.)
-fn serve(input: &mut [u8], token: &mut [u8], list: &mut [f64], out: &mut [u8]) {
-    let mut line = Line::Empty;
-    let mut turns = u64::MAX;
-    while 0 < turns {
-        turns -= 1;
-        let Input::On(more) = turn(line, input, token, list, out) else {
-            return;
-        };
-        line = more;
-    }
-}
-
+// Reads until the input is over, and writes what each read answers, so that nothing waits while the next read does.
+// (The count of turns, which no input reaches, is why this ends.)
 fn main() {
     let mut input = io::large_buffer();
     let mut out = io::large_buffer();
-    let mut token = [0u8; TOKEN];
-    let mut list = [0.0f64; HELD];
-    serve(&mut input, &mut token, &mut list, &mut out);
+    let mut token = [0u8; held::TOKEN];
+    let mut list = [0.0f64; held::LIST];
+    let mut left = Left {
+        line: Line::Empty,
+        len: 0,
+    };
+    let mut turns = u64::MAX;
+    while 0 < turns {
+        turns -= 1;
+        let n = filled(&mut input);
+        if n == 0 {
+            let line = left.line;
+            last(line, &mut token, &mut list, &mut out);
+            return;
+        }
+        left = feed(left, &input, n, &mut token, &mut list, &mut out);
+        if !out::flush(&out, left.len) {
+            return;
+        }
+        left.len = 0;
+    }
 }

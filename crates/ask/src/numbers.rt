@@ -1,26 +1,25 @@
 // The answers of `double`.
-use crate::answer::unclear;
-use crate::out::put;
-use crate::out::put_decimal;
-use crate::out::put_refusal;
-use crate::out::put_text;
+use crate::reply;
+use crate::reply::Reply;
+use crate::word::APART;
+use crate::word::NONE;
+use double::answer::Parts;
 use double::answer::Taken;
 
 // apart D: sign bit, significand and exponent.
-pub fn apart(list: &[f64], out: &mut [u8], len: usize) -> usize {
+pub fn apart(list: &[f64]) -> Reply {
     if list.len() != 1 {
-        return unclear(out, len);
+        return reply::unclear();
     }
     match double::take_apart(list[0]) {
-        Taken::Apart(p) => {
-            let mut n = put_text(out, len, b"apart ");
-            n = put_decimal(out, n, p.negative as u64);
-            n = put(out, n, b' ');
-            n = put_decimal(out, n, p.significand);
-            n = put(out, n, b' ');
-            n = put_decimal(out, n, p.exponent as u64);
-            put(out, n, b'\n')
-        }
-        Taken::Refused(r) => put_refusal(out, len, r),
+        Taken::Apart(p) => parted(p),
+        Taken::Refused(r) => reply::refused(r),
     }
+}
+
+fn parted(p: Parts) -> Reply {
+    let mut reply = reply::said_two(APART, NONE, p.negative as u64, p.significand);
+    reply.count = 3;
+    reply.c = p.exponent as u64;
+    reply
 }

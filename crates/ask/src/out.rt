@@ -1,79 +1,129 @@
 // The answers on their way out: `out` holds the bytes that are not written yet, `len` of them, and each function answers the new `len`.
+use crate::held::List;
+use crate::held::Out;
+use crate::held::Token;
 use crate::part::first;
-use double::refusal::Refusal;
+use crate::part::first_doubles;
+use crate::reply::Reply;
+use crate::word::LETTERS;
+use crate::word::NONE;
+use crate::word::letter;
 use libc::STDOUT_FILENO;
 
 // Writes what waits. Nothing waits any more, also where writing failed.
-pub fn flush(out: &[u8], len: usize) -> bool {
+pub fn flush(out: &Out, len: usize) -> bool {
     io::write_all(STDOUT_FILENO, first(out, len))
 }
 
 // One byte more; what waits is written first where it leaves no room.
-pub fn put(out: &mut [u8], len: usize, b: u8) -> usize {
+pub fn put(out: &mut Out, len: usize, b: u8) -> usize {
     if len < out.len() {
         out[len] = b;
         return len + 1;
     }
     flush(out, len);
-    if out.len() == 0 {
-        return 0;
-    }
     out[0] = b;
     1
 }
 
-pub fn put_text(out: &mut [u8], len: usize, text: &[u8]) -> usize {
+// The answer line of a reply, whose bytes and doubles are the first of `token` and `list`.
+pub fn put_reply(out: &mut Out, len: usize, r: Reply, token: &Token, list: &List) -> usize {
+    let n = put_head(out, len, r);
+    let k = put_doubles(out, n, first_doubles(list, r.doubles));
+    let e = put_bytes(out, k, first(token, r.bytes));
+    put(out, e, b'\n')
+}
+
+fn put_head(out: &mut Out, len: usize, r: Reply) -> usize {
+    let n = put_word(out, len, r.first);
+    let k = put_second(out, n, r.second);
+    put_numbers(out, k, r)
+}
+
+fn put_word(out: &mut Out, len: usize, word: usize) -> usize {
     let mut n = len;
     let mut i: usize = 0;
-    while i < text.len() {
-        n = put(out, n, text[i]);
+    while i < LETTERS {
+        let b = letter(word, i);
+        if b == b' ' {
+            return n;
+        }
+        n = put(out, n, b);
         i += 1;
     }
     n
 }
 
-pub fn put_decimal(out: &mut [u8], len: usize, value: u64) -> usize {
+fn put_second(out: &mut Out, len: usize, word: usize) -> usize {
+    if word == NONE {
+        return len;
+    }
+    let n = put(out, len, b' ');
+    put_word(out, n, word)
+}
+
+fn put_numbers(out: &mut Out, len: usize, r: Reply) -> usize {
+    if r.count < 1 {
+        return len;
+    }
+    let n = put_decimal(out, len, r.a);
+    if r.count < 2 {
+        return n;
+    }
+    let k = put_decimal(out, n, r.b);
+    if r.count < 3 {
+        return k;
+    }
+    put_decimal(out, k, r.c)
+}
+
+fn put_digits(out: &mut Out, len: usize, digits: &[u8]) -> usize {
+    let mut n = len;
+    let mut i: usize = 0;
+    while i < digits.len() {
+        n = put(out, n, digits[i]);
+        i += 1;
+    }
+    n
+}
+
+// A number in decimal, after a space.
+fn put_decimal(out: &mut Out, len: usize, value: u64) -> usize {
     let mut digits = [0u8; 20];
     let k = io::decimal(value, &mut digits);
-    put_text(out, len, &digits[..k])
+    let n = put(out, len, b' ');
+    put_digits(out, n, &digits[..k])
 }
 
-pub fn put_refusal(out: &mut [u8], len: usize, r: Refusal) -> usize {
-    let mut n = put_text(out, len, b"refused ");
-    n = put_decimal(out, n, r.number as u64);
-    n = put(out, n, b' ');
-    n = put_decimal(out, n, r.place as u64);
-    put(out, n, b'\n')
-}
-
-// A double as its 16 hexadecimal digits.
-fn put_double(out: &mut [u8], len: usize, x: f64) -> usize {
+// A number in hexadecimal.
+fn put_hex(out: &mut Out, len: usize, value: u64, places: usize) -> usize {
     let mut digits = [0u8; 16];
-    let k = io::hex(double::to_pattern(x), 16, &mut digits);
-    put_text(out, len, &digits[..k])
+    let k = io::hex(value, places, &mut digits);
+    put_digits(out, len, &digits[..k])
 }
 
-fn put_byte(out: &mut [u8], len: usize, b: u8) -> usize {
-    let mut digits = [0u8; 16];
-    let k = io::hex(b as u64, 2, &mut digits);
-    put_text(out, len, &digits[..k])
-}
-
-// A list of doubles, each after a space.
-pub fn put_doubles(out: &mut [u8], len: usize, list: &[f64]) -> usize {
+// A list of doubles, each as its 16 hexadecimal digits after a space.
+fn put_doubles(out: &mut Out, len: usize, list: &[f64]) -> usize {
     let mut n = len;
     let mut i: usize = 0;
     while i < list.len() {
         n = put(out, n, b' ');
-        n = put_double(out, n, list[i]);
+        n = put_hex(out, n, double::to_pattern(list[i]), 16);
         i += 1;
     }
     n
 }
 
-// Bytes as two hexadecimal digits each.
-pub fn put_bytes(out: &mut [u8], len: usize, bytes: &[u8]) -> usize {
-    let mut n = len;
+fn put_byte(out: &mut Out, len: usize, b: u8) -> usize {
+    put_hex(out, len, b as u64, 2)
+}
+
+// Bytes as two hexadecimal digits each, after one space.
+fn put_bytes(out: &mut Out, len: usize, bytes: &[u8]) -> usize {
+    if bytes.len() == 0 {
+        return len;
+    }
+    let mut n = put(out, len, b' ');
     let mut i: usize = 0;
     while i < bytes.len() {
         n = put_byte(out, n, bytes[i]);

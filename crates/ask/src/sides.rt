@@ -1,73 +1,60 @@
 // The answers of `geometry`.
-use crate::answer::unclear;
-use crate::out::put;
-use crate::out::put_decimal;
-use crate::out::put_refusal;
-use crate::out::put_text;
-use crate::sums::put_sign;
+use crate::reply;
+use crate::reply::Reply;
+use crate::sums::sign_word;
+use crate::word;
 use geometry::answer::Place;
 use geometry::answer::Side;
 use geometry::answer::Turn;
 use geometry::answer::Zone;
 use point::Point;
+ghost use Prim.Native.Nat.{_+_, _<_};
+ghost use lib.ListN.{length};
 
-fn put_turn(out: &mut [u8], len: usize, t: Turn) -> usize {
-    let sign = t.sign;
-    let mut n = put_text(out, len, b"side ");
-    n = put_sign(out, n, sign);
-    n = put(out, n, b' ');
-    n = put_decimal(out, n, t.stage as u64);
-    n = put(out, n, b' ');
-    n = put_decimal(out, n, t.steps as u64);
-    put(out, n, b'\n')
+fn point_at(list: &[f64], i: usize) -> Point
+    requires { ⌜ i + 1 < length (now list) ⌝ }
+{
+    Point {
+        x: list[i],
+        y: list[i + 1],
+    }
 }
 
 // side D D D D D D: sign, stage and steps.
-pub fn side(list: &[f64], out: &mut [u8], len: usize) -> usize {
+pub fn side(list: &[f64]) -> Reply {
     if list.len() != 6 {
-        return unclear(out, len);
+        return reply::unclear();
     }
-    let p = Point {
-        x: list[0],
-        y: list[1],
-    };
-    let q = Point {
-        x: list[2],
-        y: list[3],
-    };
-    let r = Point {
-        x: list[4],
-        y: list[5],
-    };
-    match geometry::side(p, q, r) {
-        Side::Of(t) => put_turn(out, len, t),
-        Side::Refused(r) => put_refusal(out, len, r),
+    turned(geometry::side(point_at(list, 0), point_at(list, 2), point_at(list, 4)))
+}
+
+fn turned(side: Side) -> Reply {
+    match side {
+        Side::Of(t) => turn(t),
+        Side::Refused(r) => reply::refused(r),
     }
 }
 
-fn put_place(out: &mut [u8], len: usize, place: Place) -> usize {
-    match place {
-        Place::Outside => put_text(out, len, b"zone outside\n"),
-        Place::Inside => put_text(out, len, b"zone inside\n"),
-        Place::Border(k) => {
-            let mut n = put_text(out, len, b"zone border ");
-            n = put_decimal(out, n, k as u64);
-            put(out, n, b'\n')
-        }
-    }
+fn turn(t: Turn) -> Reply {
+    let sign = t.sign;
+    reply::said_two(word::SIDE, sign_word(sign), t.stage as u64, t.steps as u64)
 }
 
 // zone D D D ..: the point, then the corners' doubles.
-pub fn zone(list: &[f64], out: &mut [u8], len: usize) -> usize {
+pub fn zone(list: &[f64]) -> Reply {
     if list.len() < 2 {
-        return unclear(out, len);
+        return reply::unclear();
     }
-    let p = Point {
-        x: list[0],
-        y: list[1],
-    };
-    match geometry::zone(&list[2..], p) {
-        Zone::At(place) => put_place(out, len, place),
-        Zone::Refused(r) => put_refusal(out, len, r),
+    match geometry::zone(&list[2..], point_at(list, 0)) {
+        Zone::At(place) => placed(place),
+        Zone::Refused(r) => reply::refused(r),
+    }
+}
+
+fn placed(place: Place) -> Reply {
+    match place {
+        Place::Outside => reply::said(word::ZONE, word::OUTSIDE),
+        Place::Inside => reply::said(word::ZONE, word::INSIDE),
+        Place::Border(k) => reply::said_one(word::ZONE, word::BORDER, k as u64),
     }
 }

@@ -1,66 +1,57 @@
 // The answers of `sum`.
-use crate::out::put;
-use crate::out::put_decimal;
-use crate::out::put_doubles;
-use crate::out::put_refusal;
-use crate::out::put_text;
+use crate::reply;
+use crate::reply::Reply;
+use crate::word;
 use sum::answer::Ceiling;
 use sum::answer::Plain;
+use sum::answer::Ran;
 use sum::answer::Run;
 use sum::answer::Sign;
 use sum::answer::Verdict;
 
-pub fn put_sign(out: &mut [u8], len: usize, sign: Sign) -> usize {
+// The word of a sign.
+pub fn sign_word(sign: Sign) -> usize {
     match sign {
-        Sign::Minus => put_text(out, len, b"-1"),
-        Sign::Zero => put_text(out, len, b"0"),
-        Sign::Plus => put_text(out, len, b"1"),
+        Sign::Minus => word::MINUS,
+        Sign::Zero => word::ZERO,
+        Sign::Plus => word::PLUS,
     }
 }
 
-fn put_verdict(out: &mut [u8], len: usize, verdict: Verdict) -> usize {
+fn verdict_word(verdict: Verdict) -> usize {
     match verdict {
-        Verdict::Decided(s) => put_sign(out, len, s),
-        Verdict::Undecided => put_text(out, len, b"undecided"),
+        Verdict::Decided(s) => sign_word(s),
+        Verdict::Undecided => word::UNDECIDED,
     }
 }
 
 // run BUDGET D ..: the sign or undecided, the steps, and the list as it stands after.
-pub fn run(list: &mut [f64], budget: u32, out: &mut [u8], len: usize) -> usize {
+pub fn run(list: &mut [f64], budget: u32) -> Reply {
     match sum::run(list, budget) {
-        Run::Done(r) => {
-            let verdict = r.verdict;
-            let mut n = put_text(out, len, b"run ");
-            n = put_verdict(out, n, verdict);
-            n = put(out, n, b' ');
-            n = put_decimal(out, n, r.steps as u64);
-            n = put_doubles(out, n, list);
-            put(out, n, b'\n')
-        }
-        Run::Refused(r) => put_refusal(out, len, r),
+        Run::Done(r) => ran(r, list.len()),
+        Run::Refused(r) => reply::refused(r),
     }
 }
 
+fn ran(r: Ran, n: usize) -> Reply {
+    let verdict = r.verdict;
+    let mut reply = reply::said_one(word::RUN, verdict_word(verdict), r.steps as u64);
+    reply.doubles = n;
+    reply
+}
+
 // ceiling D ..
-pub fn ceiling(list: &[f64], out: &mut [u8], len: usize) -> usize {
+pub fn ceiling(list: &[f64]) -> Reply {
     match sum::ceiling(list) {
-        Ceiling::Steps(k) => {
-            let mut n = put_text(out, len, b"ceiling ");
-            n = put_decimal(out, n, k as u64);
-            put(out, n, b'\n')
-        }
-        Ceiling::Refused(r) => put_refusal(out, len, r),
+        Ceiling::Steps(k) => reply::said_one(word::CEILING, word::NONE, k as u64),
+        Ceiling::Refused(r) => reply::refused(r),
     }
 }
 
 // plain D ..
-pub fn plain(list: &[f64], out: &mut [u8], len: usize) -> usize {
+pub fn plain(list: &[f64]) -> Reply {
     match sum::plain(list) {
-        Plain::Signed(s) => {
-            let mut n = put_text(out, len, b"plain ");
-            n = put_sign(out, n, s);
-            put(out, n, b'\n')
-        }
-        Plain::Refused(r) => put_refusal(out, len, r),
+        Plain::Signed(s) => reply::said(word::PLAIN, sign_word(s)),
+        Plain::Refused(r) => reply::refused(r),
     }
 }

@@ -1,54 +1,46 @@
 // The answers of `track`.
-use crate::answer::unclear;
-use crate::out::put;
-use crate::out::put_bytes;
-use crate::out::put_decimal;
-use crate::out::put_doubles;
-use crate::out::put_refusal;
-use crate::out::put_text;
-use crate::part::first;
+use crate::reply;
+use crate::reply::Reply;
+use crate::word;
 use track::answer::Reading;
 use track::answer::Writing;
 
 // write ROOM D ..: the file's length and bytes, with ROOM bytes lent.
-pub fn write(room: u32, list: &[f64], bytes: &mut [u8], out: &mut [u8], len: usize) -> usize {
+pub fn write(room: u32, list: &[f64], bytes: &mut [u8]) -> Reply {
     let lent = room as usize;
     if bytes.len() < lent {
-        return unclear(out, len);
+        return reply::unclear();
     }
     match track::write(list, &mut bytes[..lent]) {
-        Writing::Length(k) => {
-            let mut n = put_text(out, len, b"write ");
-            n = put_decimal(out, n, k as u64);
-            n = put(out, n, b' ');
-            n = put_bytes(out, n, first(bytes, k));
-            put(out, n, b'\n')
-        }
-        Writing::Refused(r) => put_refusal(out, len, r),
+        Writing::Length(k) => written(k),
+        Writing::Refused(r) => reply::refused(r),
     }
 }
 
-// The coordinates of the first k points of a list, if it has so many.
-fn put_points(out: &mut [u8], len: usize, list: &[f64], k: usize) -> usize {
-    if list.len() / 2 < k {
-        return len;
-    }
-    put_doubles(out, len, &list[..2 * k])
+fn written(k: usize) -> Reply {
+    let mut reply = reply::said_one(word::WRITE, word::NONE, k as u64);
+    reply.bytes = k;
+    reply
 }
 
 // read ROOM BYTES: how many points, and their coordinates, with ROOM doubles lent.
-pub fn read(room: u32, file: &[u8], list: &mut [f64], out: &mut [u8], len: usize) -> usize {
+pub fn read(room: u32, file: &[u8], list: &mut [f64]) -> Reply {
     let lent = room as usize;
     if list.len() < lent {
-        return unclear(out, len);
+        return reply::unclear();
     }
     match track::read(file, &mut list[..lent]) {
-        Reading::Points(k) => {
-            let mut n = put_text(out, len, b"read ");
-            n = put_decimal(out, n, k as u64);
-            n = put_points(out, n, list, k);
-            put(out, n, b'\n')
-        }
-        Reading::Refused(r) => put_refusal(out, len, r),
+        Reading::Points(k) => points(k, lent),
+        Reading::Refused(r) => reply::refused(r),
     }
+}
+
+// The first k points of a list of `lent` doubles, if it has so many.
+fn points(k: usize, lent: usize) -> Reply {
+    let mut reply = reply::said_one(word::READ, word::NONE, k as u64);
+    if lent / 2 < k {
+        return reply;
+    }
+    reply.doubles = 2 * k;
+    reply
 }

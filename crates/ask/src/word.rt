@@ -1,56 +1,103 @@
-// The words that a question begins with.
-pub enum Word {
-    Apart,
-    Run,
-    Ceiling,
-    Plain,
-    Side,
-    Zone,
-    Write,
-    Read,
-    // No question begins with it.
-    None,
+// The words of questions and answers: each is a row of ten letters, filled up with spaces.
+pub const APART: usize = 0;
+
+pub const RUN: usize = 1;
+
+pub const CEILING: usize = 2;
+
+pub const PLAIN: usize = 3;
+
+pub const SIDE: usize = 4;
+
+pub const ZONE: usize = 5;
+
+pub const WRITE: usize = 6;
+
+pub const READ: usize = 7;
+
+pub const REFUSED: usize = 8;
+
+pub const UNCLEAR: usize = 9;
+
+pub const UNDECIDED: usize = 10;
+
+pub const OUTSIDE: usize = 11;
+
+pub const INSIDE: usize = 12;
+
+pub const BORDER: usize = 13;
+
+pub const MINUS: usize = 14;
+
+pub const ZERO: usize = 15;
+
+pub const PLUS: usize = 16;
+
+// No word.
+pub const NONE: usize = 17;
+
+// The most letters of a word.
+pub const LETTERS: usize = 10;
+
+const ROWS: [[u8; LETTERS]; NONE] = [
+    *b"apart     ",
+    *b"run       ",
+    *b"ceiling   ",
+    *b"plain     ",
+    *b"side      ",
+    *b"zone      ",
+    *b"write     ",
+    *b"read      ",
+    *b"refused   ",
+    *b"unclear   ",
+    *b"undecided ",
+    *b"outside   ",
+    *b"inside    ",
+    *b"border    ",
+    *b"-1        ",
+    *b"0         ",
+    *b"1         ",
+];
+
+// A letter of a word by its index, or a space behind the last one.
+pub fn letter(word: usize, i: usize) -> u8 {
+    if NONE <= word {
+        return b' ';
+    }
+    if LETTERS <= i {
+        return b' ';
+    }
+    ROWS[word][i]
 }
 
-pub fn word_of(token: &[u8]) -> Word {
-    if check::same(token, b"apart") {
-        return Word::Apart;
+// The word that a question begins with, of those before `refused`.
+pub fn word_of(token: &[u8]) -> usize {
+    let mut word = APART;
+    while word < REFUSED {
+        if is_word(token, word) {
+            return word;
+        }
+        word += 1;
     }
-    if check::same(token, b"run") {
-        return Word::Run;
+    NONE
+}
+
+// Whether a token, which has no space, is a word.
+fn is_word(token: &[u8], word: usize) -> bool {
+    let mut i: usize = 0;
+    while i < token.len() {
+        if token[i] != letter(word, i) {
+            return false;
+        }
+        i += 1;
     }
-    if check::same(token, b"ceiling") {
-        return Word::Ceiling;
-    }
-    if check::same(token, b"plain") {
-        return Word::Plain;
-    }
-    if check::same(token, b"side") {
-        return Word::Side;
-    }
-    if check::same(token, b"zone") {
-        return Word::Zone;
-    }
-    if check::same(token, b"write") {
-        return Word::Write;
-    }
-    if check::same(token, b"read") {
-        return Word::Read;
-    }
-    Word::None
+    letter(word, i) == b' '
 }
 
 // Whether the first argument is a count.
-pub fn takes_count(word: Word) -> bool {
+pub fn takes_count(word: usize) -> bool {
     match word {
-        Word::Run => true,
-        Word::Write => true,
-        Word::Read => true,
-        Word::Apart => false,
-        Word::Ceiling => false,
-        Word::Plain => false,
-        Word::Side => false,
-        Word::Zone => false,
-        Word::None => false,
+        RUN | WRITE | READ => true,
+        _ => false,
     }
 }

@@ -1,11 +1,11 @@
--- The cases marked * in 01's section 'Checked by hand', and what it is for one to be right. A double is given by its bit pattern.
+-- The cases marked * in docs/RULES.md, section Cases, and what it is for one to be right. A double is given by its bit pattern.
 use Prim.Native.Nat.{ℕ, _*_, _-_, _^_}
 use mathlib.Core.Bool.{Bool, true, false, _&&_}
 use mathlib.Core.List.{List, [], _∷_}
 use lib.Dec.{eqb}
 use lib.IntN.{ℤ, pos, negsuc}
 use lib.Ieee.{Float, binary64, ofBits, toBits}
-use Rattle.double.specs.Outcome.{Outcome, answers, refuses}
+use Rattle.refusal.specs.Outcome.{Outcome, answers, refuses}
 use Rattle.point.specs.declared.Point.{Point}
 use Rattle.sum.specs.Run.{Decision, sign, undecided, Told, runOf, leftOf}
 use Rattle.sum.specs.Ceiling.{ceilingAnswer}
@@ -60,7 +60,7 @@ abbrev pub holds : Outcome (List Float) → List Float → Bool
 holds (answers xs) ys = alike xs ys
 holds (refuses n p) ys = false
 
--- a budget, "a 32-bit count", that lets every list below be decided
+-- the greatest budget (Sum 13), which lets every list below be decided
 abbrev pub budget : ℕ
 budget = 2 ^ 32 - 1
 
@@ -72,6 +72,7 @@ right (ceiling xs n) = counted (ceilingAnswer xs) n
 right (side p q r s n k) = turnedTo (sideOf p q r) s n k
 right (file bytes xs) = holds (readOf limit bytes (2 * limit)) xs
 
+-- Cases 1: all of a list are right, which is one statement that computes the rules
 unfoldable pub allRight : List Case → Bool
 unfolding right
 allRight [] = true
@@ -101,11 +102,11 @@ two = double 0x4000000000000000
 abbrev small : Float
 small = double 0x3C30000000000000
 
--- "c = 2^-2 + 2^-54"
+-- -c of Cases 6: c is 2^-2 + 2^-54
 abbrev minusC : Float
 minusC = double 0xBFD0000000000001
 
--- "M the largest finite double"
+-- M of Cases 7: the largest finite double
 abbrev largest : Float
 largest = double 0x7FEFFFFFFFFFFFFF
 
@@ -120,31 +121,31 @@ oneOne = point one one
 
 unfoldable pub starred : List Case
 starred =
-    -- "empty sum: 0, 0 steps"
+    -- Cases 3: the empty list: 0, 0 steps
     sum [] (pos 0) 0
-    -- "{1, -1}: 0, 1 step, ceiling 2"
+    -- Cases 4: {1, -1}: 0, 1 step, ceiling 2
     ∷ sum (one ∷ minusOne ∷ []) (pos 0) 1
     ∷ ceiling (one ∷ minusOne ∷ []) 2
-    -- "{1, 2^-60, -1}: +1, 1 step, ceiling 5"
+    -- Cases 5: {1, 2^-60, -1}: +1, 1 step, ceiling 5
     ∷ sum (one ∷ small ∷ minusOne ∷ []) (pos 1) 1
     ∷ ceiling (one ∷ small ∷ minusOne ∷ []) 5
-    -- "{1, -c, -c, -c, -c}: -1, 3 steps, ceiling 10. After one step: 0.75, -2^-54, -c, -c, -c"
+    -- Cases 6: {1, -c, -c, -c, -c}: -1, 3 steps, ceiling 10; one step leaves {0.75, -2^-54, -c, -c, -c}
     ∷ sum (one ∷ minusC ∷ minusC ∷ minusC ∷ minusC ∷ []) (negsuc 0) 3
     ∷ ceiling (one ∷ minusC ∷ minusC ∷ minusC ∷ minusC ∷ []) 10
     ∷ stepped (one ∷ minusC ∷ minusC ∷ minusC ∷ minusC ∷ []) 1
     (double 0x3FE8000000000000 ∷ double 0xBC90000000000000 ∷ minusC ∷ minusC ∷ minusC ∷ [])
-    -- "{M, M, -M, -M}: 0, 2 steps"
+    -- Cases 7: {M, M, -M, -M}: 0, 2 steps
     ∷ sum (largest ∷ largest ∷ minusLargest ∷ minusLargest ∷ []) (pos 0) 2
-    -- "(0,0) (1,0) (0,1): +1, stage 2"
+    -- Cases 9: (0,0) (1,0) (0,1): +1, stage 2
     ∷ side origin (point one zero) (point zero one) (pos 1) 2 0
-    -- "(0,0) (1,1) (2,2): 0, stage 3, 1 step"
+    -- Cases 10: (0,0) (1,1) (2,2): 0, stage 3, 1 step
     ∷ side origin oneOne (point two two) (pos 0) 3 1
-    -- "(0,0) (1,1) (1, 1+2^-50): +1, stage 3, 0 steps"
+    -- Cases 11: (0,0) (1,1) (1, 1+2^-50): +1, stage 3, 0 steps
     ∷ side origin oneOne (point one (double 0x3FF0000000000004)) (pos 1) 3 0
-    -- "(0,0) (1,1) (1, 1+2^-49): +1, stage 2"
+    -- Cases 12: (0,0) (1,1) (1, 1+2^-49): +1, stage 2
     ∷ side origin oneOne (point one (double 0x3FF0000000000008)) (pos 1) 2 0
-    -- "File `01 00 00` is (0,0)"
+    -- Cases 15: `01 00 00` is the point (0,0)
     ∷ file (1 ∷ 0 ∷ 0 ∷ []) (zero ∷ zero ∷ [])
-    -- "`00` is no points"
+    -- Cases 20: `00` is no points
     ∷ file (0 ∷ []) []
     ∷ []

@@ -1,1 +1,1 @@
-// The starred cases of 01's 'Checked by hand', as one statement that computes the written rules. This crate has definitions and a proof only.
+// The cases marked * in docs/RULES.md, as one statement that computes the rules. This crate has definitions and a proof only.

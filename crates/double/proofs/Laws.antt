@@ -13,8 +13,6 @@ pub mod Worth
 pub mod Sum
 -- sums and differences by the part of either sign, for a proof that serves both
 pub mod Signed
--- a whole number as a difference of two naturals
-pub mod By
 -- products that are whole numbers of units
 pub mod Multiply
 -- which zero a sum of 0 is
@@ -43,18 +41,6 @@ pub mod ExactProduct
 pub mod Sized
 -- what callers of the exact product cite: for whom it holds, by parts, in ℤ, and how large the roundoff is
 pub mod Roundoff
--- the filter of a difference of two products, in numbers
-pub mod Filter
--- the greater of two magnitudes, as a double
-pub mod Greater
--- the filter on four rounded differences, at the floats
-pub mod Threshold
--- the filter decides the sign of the side's determinant
-pub mod Orientation
--- a refusal is known by its number and its place
-pub mod Outcome
--- the search for the first entry that fails a test
-pub mod Search
 -- the double of a bit pattern
 pub mod Pattern
 -- a double taken apart

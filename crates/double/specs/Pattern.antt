@@ -3,10 +3,10 @@ use Prim.Native.Nat.{ℕ}
 use mathlib.Core.Path.{_≡_}
 use lib.Ieee.{Float, binary64, ofBits, toBits}
 
--- the promise: the double that these bits are
+-- Numbers 8, the promise: the double that these bits are
 abbrev pub FromPatternSays : ℕ → Float → Type 0
 FromPatternSays bits r = r ≡ ofBits binary64 bits
 
--- the promise: the bits of a double
+-- Numbers 8, the promise: the bits of a double
 abbrev pub ToPatternSays : Float → ℕ → Type 0
 ToPatternSays x r = r ≡ toBits binary64 x

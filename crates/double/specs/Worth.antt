@@ -1,5 +1,5 @@
--- What a double is worth, by 01's section Numbers. A double is a `Float` of `lib.Ieee` that fits `binary64`: `fin s m e` is finite,
--- m * 2 ^ e, negative where s is true; `inf s` is infinite; `nan` is not a number. Some definitions take the format, as their laws do.
+-- What a double is worth: docs/RULES.md, section Numbers. A double is a `Float` of `lib.Ieee` that fits `binary64` (Numbers 1): `fin s m e`
+-- is finite, m * 2 ^ e, negative where s is true; `inf s` is infinite; `nan` is not a number. Some definitions take the format, as laws do.
 use Prim.Native.Nat.{ℕ, suc, _*_, _/_, _^_}
 use mathlib.Core.Bool.{Bool, false, true, cond}
 use mathlib.Core.List.{List}
@@ -9,13 +9,13 @@ use lib.ListN.{getD}
 use lib.Ieee.{Float, nan, inf, fin, Format, binary64, low, round, fits, ofBits}
 use lib.Ieee.Positive.{num, den}
 
--- the sign bit: set for the negative; a zero has either. (A NaN's is not kept.)
+-- Numbers 5: the sign bit: set for the negative; a zero has either. (A NaN's is not kept.)
 abbrev pub signBit : Float → Bool
 signBit nan = false
 signBit (inf s) = s
 signBit (fin s m e) = s
 
--- "A finite double is a whole number times 2^-1074": the magnitude num / den as that number. In binary64 `low` is 1074.
+-- Numbers 2: the whole number of units that a magnitude num / den is. In binary64 `low` is 1074.
 abbrev pub mag : Format → Float → ℕ
 mag f x = num x * 2 ^ low f / den x
 
@@ -26,7 +26,7 @@ plus f x = cond (signBit x) 0 (mag f x)
 abbrev pub minus : Format → Float → ℕ
 minus f x = cond (signBit x) (mag f x) 0
 
--- "Exact sums are stated in those units"; "Both zeros have value 0."
+-- Numbers 2 and 3: what a double is worth in units; a zero of either sign is worth 0
 unfoldable pub worth : Float → ℤ
 worth x = cond (signBit x) (negℤ (pos (mag binary64 x))) (pos (mag binary64 x))
 

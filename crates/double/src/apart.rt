@@ -2,8 +2,8 @@
 ghost use Rattle.double.specs.Apart.{TakenSays};
 use crate::answer::Parts;
 use crate::answer::Taken;
-use crate::refusal::NOT_FINITE;
-use crate::refusal::Refusal;
+use refusal::NOT_FINITE;
+use refusal::Refusal;
 
 // The weight of the sign bit, of the exponent's field, and the field that infinities and NaNs have.
 const SIGN: u64 = 0x8000_0000_0000_0000;

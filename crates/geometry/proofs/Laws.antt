@@ -9,6 +9,8 @@ pub mod Filter
 pub mod Exact
 -- the side: its sign, stage and steps, its refusals, and no two results
 pub mod Side
+-- comparisons of doubles by what they are worth
+pub mod Worths
 -- the edges of a zone, and one edge and a point
 pub mod Edges
 -- the walk and the count over all edges, and the refusals of a zone
@@ -19,5 +21,7 @@ pub mod Outcomes
 pub mod Corners
 -- a zone that is answered
 pub mod Answered
+-- where a point lies: off every edge, or on a first one
+pub mod Located
 -- the demands, of whatever keeps the promises of `side` and `zone`: what callers cite
 pub mod Calls

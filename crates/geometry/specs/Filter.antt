@@ -9,16 +9,16 @@ use Rattle.point.specs.Accepted.{magnitudeOf}
 use Rattle.sum.specs.declared.answer.Sign.the-variants.{Minus, Plus}
 use lib.IntN.{ℤ, pos, _+ℤ_, _-ℤ_, _*ℤ_}
 use Rattle.whole.specs.Order.{_≤ᶻ_, _<ᶻ_}
-use Rattle.geometry.specs.Determinant.{determinant}
+use Rattle.geometry.specs.Spot.{determinant}
 use Rattle.geometry.specs.Product.{unit}
 use Rattle.geometry.specs.declared.filter.Early.{Early}
 use Rattle.geometry.specs.declared.filter.Early.the-variants.{Level, Clear, Open}
 
--- "8.8872057372592758e-16, taken as the nearest double"
+-- Side 5: the double nearest to 8.8872057372592758e-16
 abbrev pub filterConstant : Float
 filterConstant = ofBits binary64 0x3CD0_0280_1000_0002
 
--- "X is the greater magnitude of the two x differences, Y of the two y differences": of u and v, each less w, rounded once
+-- Side 3: X and Y: the greater magnitude of two differences, of u and v, each less w, rounded once
 abbrev pub greater : Float → Float → Float
 greater a b = cond (lt a b) b a
 
@@ -31,26 +31,26 @@ xSpanOf p q r = spanOf (q .x) (r .x) (p .x)
 abbrev pub ySpanOf : Point → Point → Point → Float
 ySpanOf p q r = spanOf (q .y) (r .y) (p .y)
 
--- "E is (8.8872057372592758e-16 .. times X) times Y, each product rounded"
+-- Side 6: E: the constant times X, rounded, and that times Y, rounded
 abbrev pub thresholdOf : Float → Float → Float
 thresholdOf X Y = mul binary64 (mul binary64 filterConstant X) Y
 
--- "the two rounded products, in the order of the formula"
+-- Side 7: the two products of rounded differences, each rounded
 abbrev pub firstProductOf : Point → Point → Point → Float
 firstProductOf p q r = mul binary64 (sub binary64 (q .x) (p .x)) (sub binary64 (r .y) (p .y))
 
 abbrev pub secondProductOf : Point → Point → Point → Float
 secondProductOf p q r = mul binary64 (sub binary64 (q .y) (p .y)) (sub binary64 (r .x) (p .x))
 
--- "D is the rounded difference of the two rounded products"
+-- Side 7: D: the first product less the second, rounded
 abbrev pub differenceOf : Point → Point → Point → Float
 differenceOf p q r = sub binary64 (firstProductOf p q r) (secondProductOf p q r)
 
--- "If D > E: +1. If D < -E: -1."
+-- Side 8: a D above E is +1, one below -E is -1, and any other tells nothing
 abbrev pub clearBy : Float → Float → Early
 clearBy D E = cond (lt E D) (Clear Plus) (cond (lt D (neg E)) (Clear Minus) Open)
 
--- "If X or Y is zero: sign 0, stage 1."
+-- Side 4: in stage 1 the sign is 0 where X or Y is zero
 abbrev pub filterBy : Float → Float → Float → Early
 filterBy D X Y = cond (eq X plus0 || eq Y plus0) Level (clearBy D (thresholdOf X Y))
 

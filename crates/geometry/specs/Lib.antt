@@ -1,7 +1,7 @@
--- What a reader must believe of the side of a point and the zone, by 01's sections of those names. In order: the exact determinant;
--- stages 1 and 2; the exact products of stage 3; the side; the zone; what their answers say of the points alone. Parts
--- is what inner functions find.
-pub mod Determinant
+-- What a reader must believe of the side of a point and the zone: docs/RULES.md, sections Side and Zone. In order: points by what they
+-- are worth; stages 1 and 2; the exact products of stage 3; the side; the zone; what their answers say of the points alone. Parts is what
+-- inner functions find.
+pub mod Spot
 pub mod Filter
 pub mod Product
 pub mod Side

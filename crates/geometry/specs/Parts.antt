@@ -1,33 +1,74 @@
--- What inner functions of the zone find: believed by no reader, since laws say that the zone is what its rule says.
-use Prim.Native.Nat.{_+_}
+-- What inner functions of the exact product and the zone find: believed by no reader, since laws say that side and zone are what their
+-- rules say.
+use Prim.Native.Nat.{_+_, ℕ, _*_, _^_, _≤_, _<_, _∣_}
 use mathlib.Core.Path.{_≡_}
-use mathlib.Core.Bool.{true, false}
+use mathlib.Core.Bool.{Bool, true, false, _&&_, _||_, cond}
 use mathlib.Core.List.{List}
-use lib.Ieee.{Float, lt, le}
-use Rattle.double.specs.Outcome.{Outcome, answers, refuses}
+use lib.Ieee.{Float, lt, le, binary64, mul}
+use Rattle.ground.specs.Plane.{Spot}
+use Rattle.ground.specs.Edge.{Edge, isUp, isDown}
+use Rattle.ground.specs.Zone.{countOf}
+use Rattle.refusal.specs.Outcome.{Outcome, answers, refuses}
 use Rattle.point.specs.declared.Point.{Point}
 use Rattle.point.specs.Accepted.{acceptingFrom}
-use Rattle.geometry.specs.Zone.{Edge, between, isUp, isDown, countOf}
 use Rattle.geometry.specs.declared.edges.Crossing.{Crossing}
 use Rattle.geometry.specs.declared.edges.Crossing.the-variants.{None, Up, Down}
 use Rattle.geometry.specs.declared.zones.Counts.{Counts}
 use Rattle.geometry.specs.declared.zones.Fault.{Fault}
 use Rattle.geometry.specs.declared.zones.Fault.the-variants.{None as FaultNone, At as FaultAt}
+use lib.Dec.{T}
+use lib.IntN.{ℤ, _+ℤ_, _*ℤ_}
+use lib.Ieee.Scale.{finite}
+use Rattle.double.specs.Worth.{mag, worth}
+use Rattle.geometry.specs.Product.{unit, roundoffOf, pairOf}
 
--- in the box of an edge
-pub record InBox (e : Edge) (p : Point) : Type 0 where
-  pub x : between (e .from .x) (e .to .x) (p .x) ≡ true
-  pub y : between (e .from .y) (e .to .y) (p .y) ≡ true
+-- ---- of the exact product
 
--- past the point's height, upward
-pub record Rises (e : Edge) (p : Point) : Type 0 where
-  pub from : le (e .from .y) (p .y) ≡ true
-  pub to : lt (p .y) (e .to .y) ≡ true
+-- Factors whose product has a roundoff that is a double: powers of two 2 ^ i and 2 ^ j divide them whose product is a whole number of
+-- units, each is at most 2 ^ 990, and the product is below 2 ^ 1023. A zero is divided by every power.
+pub record Factors (x y : Float) : Type 0 where
+  pub x-finite : T (finite x)
+  pub y-finite : T (finite y)
+  pub i : ℕ
+  pub j : ℕ
+  pub x-grain : 2 ^ i ∣ mag binary64 x
+  pub y-grain : 2 ^ j ∣ mag binary64 y
+  pub whole : 1074 ≤ i + j
+  pub x-small : mag binary64 x ≤ 2 ^ 2064
+  pub y-small : mag binary64 y ≤ 2 ^ 2064
+  pub small : mag binary64 x * mag binary64 y < 2 ^ 3171
+
+-- Side 12: the pair, and that nothing is lost: in squares of units it is the product
+pub record ExactProduct (x y : Float) (pair : List Float) : Type 0 where
+  pub pair-is : pair ≡ pairOf x y
+  pub exact : (worth (mul binary64 x y) +ℤ worth (roundoffOf x y)) *ℤ unit ≡ worth x *ℤ worth y
+
+-- ---- of doubles
+
+-- between two ends, which count
+abbrev pub liesBetween : Float → Float → Float → Bool
+liesBetween a b v = (le a v && le v b) || (le b v && le v a)
+
+-- in the box of two points
+pub record InBox (a b p : Point) : Type 0 where
+  pub x : liesBetween (a .x) (b .x) (p .x) ≡ true
+  pub y : liesBetween (a .y) (b .y) (p .y) ≡ true
+
+-- from a to b past the point's height, upward
+pub record Rises (a b p : Point) : Type 0 where
+  pub from : le (a .y) (p .y) ≡ true
+  pub to : lt (p .y) (b .y) ≡ true
 
 -- and downward
-pub record Falls (e : Edge) (p : Point) : Type 0 where
-  pub from : le (e .from .y) (p .y) ≡ false
-  pub to : le (e .to .y) (p .y) ≡ true
+pub record Falls (a b p : Point) : Type 0 where
+  pub from : le (a .y) (p .y) ≡ false
+  pub to : le (b .y) (p .y) ≡ true
+
+-- ---- of the rule
+
+-- how an edge counts
+abbrev pub crossingOf : Edge → Spot → Crossing
+crossingOf e p = cond (isUp e p) Up (cond (isDown e p) Down None)
 
 -- one edge more in the count
 abbrev pub withEdge : Counts → Crossing → Counts
@@ -35,7 +76,7 @@ withEdge c None = c
 withEdge c Up = record { ups = c .ups + 1; downs = c .downs }
 withEdge c Down = record { ups = c .ups; downs = c .downs + 1 }
 
-abbrev pub countsOf : List Edge → Point → Counts
+abbrev pub countsOf : List Edge → Spot → Counts
 countsOf es p = record { ups = countOf isUp es p; downs = countOf isDown es p }
 
 -- the corners' refusals: their places begin at 2

@@ -1,16 +1,19 @@
 -- What an answer of a side or a zone says of the points alone: the words of the laws about the calls (Laws.Calls).
-use Prim.Native.Nat.{ℕ, _+_, _/_, _%_, _≤_, _<_}
+use Prim.Native.Nat.{ℕ, _/_, _%_, _≤_, _<_}
 use mathlib.Core.Path.{_≡_}
 use mathlib.Core.Bool.{true, false}
 use mathlib.Core.List.{List, _∷_}
 use lib.ListN.{length}
 use lib.Ieee.{Float, nan}
-use Rattle.double.specs.Outcome.{tooMany, notAccepted, tooFewCorners, oddLength}
-use Rattle.double.specs.Search.{IsFirst}
+use Rattle.refusal.specs.Outcome.{tooMany, notAccepted, tooFewCorners, oddLength}
+use Rattle.refusal.specs.Search.{IsFirst}
 use Rattle.point.specs.declared.Point.{Point}
 use Rattle.point.specs.Accepted.{acceptedOf}
 use Rattle.geometry.specs.Side.{sixOf}
-use Rattle.geometry.specs.Zone.{fewest, most, cornersOf, edgesOf, edgeAt, onEdge, isUp, isDown, countOf}
+use Rattle.ground.specs.Edge.{edgesOf, onEdge}
+use Rattle.ground.specs.Zone.{Tally, tallyOf}
+use Rattle.geometry.specs.Spot.{spotOf}
+use Rattle.geometry.specs.Zone.{fewest, most, cornersOf, edgeAt}
 
 -- a side is refused with this number and place
 abbrev pub SideRefusedAs : Point → Point → Point → ℕ → ℕ → Type 0
@@ -27,13 +30,13 @@ pub data ZoneRefusedAs (xs : List Float) (p : Point) : ℕ → ℕ → Type 0 wh
 -- edge k has the point, and no earlier one
 pub record FirstOn (xs : List Float) (p : Point) (k : ℕ) : Type 0 where
   pub inside : k < length xs / 2
-  pub on : onEdge (edgeAt xs k) p ≡ true
-  pub before : (i : ℕ) → i < k → onEdge (edgeAt xs i) p ≡ false
+  pub on : onEdge (edgeAt xs k) (spotOf p) ≡ true
+  pub before : (i : ℕ) → i < k → onEdge (edgeAt xs i) (spotOf p) ≡ false
 
 -- no edge has it
 abbrev pub OffBorder : List Float → Point → Type 0
-OffBorder xs p = (k : ℕ) → k < length xs / 2 → onEdge (edgeAt xs k) p ≡ false
+OffBorder xs p = (k : ℕ) → k < length xs / 2 → onEdge (edgeAt xs k) (spotOf p) ≡ false
 
 -- how many edges count, upward and downward
-abbrev pub tallyOf : List Float → Point → ℕ
-tallyOf xs p = countOf isUp (edgesOf (cornersOf xs)) p + countOf isDown (edgesOf (cornersOf xs)) p
+abbrev pub tallyIn : List Float → Point → Tally
+tallyIn xs p = tallyOf (edgesOf (cornersOf xs)) (spotOf p)

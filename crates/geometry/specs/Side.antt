@@ -6,8 +6,8 @@ use mathlib.Core.List.{List, [], _∷_}
 use lib.Dec.{T}
 use lib.IntN.{ℤ, pos}
 use lib.Ieee.{Float, binary64, fits}
-use Rattle.double.specs.Outcome.{Outcome, answers, refuses}
-use Rattle.double.specs.Search.{passingFrom}
+use Rattle.refusal.specs.Outcome.{Outcome, answers, refuses}
+use Rattle.refusal.specs.Search.{passingFrom}
 use Rattle.point.specs.declared.Point.{Point}
 use Rattle.point.specs.Accepted.{acceptedWithin, acceptedOf, acceptingFrom}
 use Rattle.sum.specs.Total.{signNumber}
@@ -20,7 +20,7 @@ use Rattle.geometry.specs.declared.answer.Side.the-variants.{Of, Refused
 use Rattle.geometry.specs.declared.filter.Early.{Early}
 use Rattle.geometry.specs.declared.filter.Early.the-variants.{Level, Clear, Open}
 
--- "The answer holds sign, stage and steps (0 in stages 1 and 2)."
+-- Side 2: the sign, the stage that found it, and the steps: 0 in stages 1 and 2
 pub record Turned : Type 0 where
   pub sign : ℤ
   pub stage : ℕ
@@ -29,7 +29,7 @@ pub record Turned : Type 0 where
 abbrev pub turned : ℤ → ℕ → ℕ → Turned
 turned s n k = record { sign = s; stage = n; steps = k }
 
--- "the sum rule decides": the sign of a run that is over
+-- Side 11: the sign of a run that is over
 abbrev pub signDecided : Decision → ℤ
 signDecided (sign z) = z
 signDecided undecided = pos 0
@@ -39,7 +39,7 @@ abbrev pub byRun : Outcome Told → Turned
 byRun (answers t) = turned (signDecided (t .decided)) 3 (t .steps)
 byRun (refuses number place) = turned (pos 0) 3 0
 
--- the run goes to its end: it has the greatest budget
+-- Side 11: the run goes to its end: it has the greatest budget
 unfoldable pub exactOf : Point → Point → Point → Turned
 unfolding summandsOf runOf
 exactOf p q r = byRun (runOf (summandsOf p q r) mostBudget)
@@ -55,7 +55,7 @@ turnOf p q r = byStage (filterOf p q r) (exactOf p q r)
 
 -- ---- the answer
 
--- this paper's numbers and values for each case of the answer
+-- Answer 4: the rules' values, or number and place, for each case of the code's answer
 abbrev pub turnSaid : Turn → Turned
 turnSaid t = turned (signNumber (t .sign)) (t .stage) (t .steps)
 
@@ -67,7 +67,7 @@ said (Refused r) = refuses (r .number) (r .place)
 abbrev pub sixOf : Point → Point → Point → List Float
 sixOf p q r = p .x ∷ p .y ∷ q .x ∷ q .y ∷ r .x ∷ r .y ∷ []
 
--- "Side: 3 only, place 0 to 5 for px, py, qx, qy, rx, ry"
+-- Order 5: 3 only, at the place of the first coordinate that is not accepted
 unfoldable pub sideOf : Point → Point → Point → Outcome Turned
 unfolding passingFrom acceptedWithin turnOf
 sideOf p q r = acceptingFrom 0 (sixOf p q r) (turnOf p q r)
@@ -76,7 +76,7 @@ sideOf p q r = acceptingFrom 0 (sixOf p q r) (turnOf p q r)
 pub record SideSays (p q r : Point) (s : Side) : Type 0 where
   pub answer : said s ≡ sideOf p q r
 
--- the third demand's "For a side question the count is never above 480": a law (Laws.Calls)
+-- Side 14: the most steps of a side; that they are never more is a law (Laws.Calls)
 abbrev pub mostSteps : ℕ
 mostSteps = 480
 

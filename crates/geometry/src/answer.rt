@@ -1,5 +1,5 @@
 // Every answer of this crate.
-use double::refusal::Refusal;
+use refusal::Refusal;
 use sum::answer::Sign;
 
 // The sign of the determinant, the stage that told it, and the steps of the sum in stage 3. +1 is counter-clockwise.

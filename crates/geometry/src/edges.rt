@@ -1,8 +1,9 @@
 // One edge of a zone and a point, all accepted: whether it is on the edge, and how the edge counts.
 ghost use mathlib.Core.Path.{_≡_};
 ghost use Rattle.geometry.specs.Side.{Accepted};
-ghost use Rattle.geometry.specs.Zone.{between, edge, onEdge, crossingOf};
-ghost use Rattle.geometry.specs.Parts.{InBox, Rises, Falls};
+ghost use Rattle.ground.specs.Edge.{edge, onEdge};
+ghost use Rattle.geometry.specs.Spot.{spotOf};
+ghost use Rattle.geometry.specs.Parts.{liesBetween, InBox, Rises, Falls, crossingOf};
 use crate::turning::turn;
 use point::Point;
 use sum::answer::Sign;
@@ -16,7 +17,7 @@ pub enum Crossing {
 
 // Whether v lies from a to b or from b to a.
 pub fn lies_between(a: f64, b: f64, v: f64) -> bool
-    ensures { λ r. ⌜ r ≡ between a b v ⌝ }
+    ensures { λ r. ⌜ r ≡ liesBetween a b v ⌝ }
 {
     if a <= v {
         if v <= b {
@@ -31,8 +32,8 @@ pub fn lies_between(a: f64, b: f64, v: f64) -> bool
 
 // Whether a point in the box of an edge is on it.
 pub fn meets(a: Point, b: Point, p: Point) -> bool
-    requires { ⌜ Accepted a × Accepted b × Accepted p × InBox (edge a b) p ⌝ }
-    ensures { λ r. ⌜ r ≡ onEdge (edge a b) p ⌝ }
+    requires { ⌜ Accepted a × Accepted b × Accepted p × InBox a b p ⌝ }
+    ensures { λ r. ⌜ r ≡ onEdge (edge (spotOf a) (spotOf b)) (spotOf p) ⌝ }
 {
     let t = turn(a, b, p);
     let s = t.sign;
@@ -45,8 +46,8 @@ pub fn meets(a: Point, b: Point, p: Point) -> bool
 
 // How an edge counts that goes up past p: it includes its start and not its end.
 pub fn rising(a: Point, b: Point, p: Point) -> Crossing
-    requires { ⌜ Accepted a × Accepted b × Accepted p × Rises (edge a b) p ⌝ }
-    ensures { λ r. ⌜ r ≡ crossingOf (edge a b) p ⌝ }
+    requires { ⌜ Accepted a × Accepted b × Accepted p × Rises a b p ⌝ }
+    ensures { λ r. ⌜ r ≡ crossingOf (edge (spotOf a) (spotOf b)) (spotOf p) ⌝ }
 {
     let t = turn(a, b, p);
     let s = t.sign;
@@ -59,8 +60,8 @@ pub fn rising(a: Point, b: Point, p: Point) -> Crossing
 
 // How an edge counts that goes down past p: it includes its end and not its start.
 pub fn falling(a: Point, b: Point, p: Point) -> Crossing
-    requires { ⌜ Accepted a × Accepted b × Accepted p × Falls (edge a b) p ⌝ }
-    ensures { λ r. ⌜ r ≡ crossingOf (edge a b) p ⌝ }
+    requires { ⌜ Accepted a × Accepted b × Accepted p × Falls a b p ⌝ }
+    ensures { λ r. ⌜ r ≡ crossingOf (edge (spotOf a) (spotOf b)) (spotOf p) ⌝ }
 {
     let t = turn(a, b, p);
     let s = t.sign;

@@ -4,6 +4,7 @@
 pub mod answer;
 mod edges;
 mod filter;
+pub mod limit;
 mod product;
 mod sides;
 mod turning;

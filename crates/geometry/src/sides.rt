@@ -3,10 +3,10 @@ ghost use mathlib.Core.Path.{_≡_};
 ghost use Rattle.geometry.specs.Side.{SideSays};
 use crate::answer::Side;
 use crate::turning::turn;
-use double::refusal::NOT_ACCEPTED;
-use double::refusal::Refusal;
 use point::Point;
 use point::accepted;
+use refusal::NOT_ACCEPTED;
+use refusal::Refusal;
 
 fn refused(place: usize) -> Side
     ensures { λ s. ⌜ s ≡ Side.Refused (record { number = 3; place = place }) ⌝ }

@@ -3,8 +3,10 @@ ghost use mathlib.Core.Path.{_≡_};
 ghost use Prim.Native.Nat.{_+_, _*_, _≤_, _<_};
 ghost use lib.ListN.{length};
 ghost use Rattle.geometry.specs.Side.{Accepted};
-ghost use Rattle.geometry.specs.Zone.{cornersOf, edge, edgesOf, onEdge, crossingOf, placeOf, placeSaid, cornerAt, nextOf, Zoned, ZoneSays};
-ghost use Rattle.geometry.specs.Parts.{withEdge, countsOf, cornersFault, faultSaid};
+ghost use Rattle.ground.specs.Edge.{edge, edgesOf, onEdge};
+ghost use Rattle.geometry.specs.Spot.{spotOf};
+ghost use Rattle.geometry.specs.Zone.{most, cornersOf, placeIn, placeSaid, cornerAt, nextOf, Zoned, ZoneSays};
+ghost use Rattle.geometry.specs.Parts.{crossingOf, withEdge, countsOf, cornersFault, faultSaid};
 use crate::answer::Place;
 use crate::answer::Zone;
 use crate::edges::Crossing;
@@ -12,21 +14,18 @@ use crate::edges::falling;
 use crate::edges::lies_between;
 use crate::edges::meets;
 use crate::edges::rising;
-use double::refusal::NOT_ACCEPTED;
-use double::refusal::ODD_LENGTH;
-use double::refusal::Refusal;
-use double::refusal::TOO_FEW_CORNERS;
-use double::refusal::TOO_MANY;
+use crate::limit::FEWEST;
+use crate::limit::MOST;
 use point::Point;
 use point::accepted;
-
-// A zone has 3 to 64 corners.
-const FEWEST: usize = 3;
-
-const MOST: usize = 64;
+use refusal::NOT_ACCEPTED;
+use refusal::ODD_LENGTH;
+use refusal::Refusal;
+use refusal::TOO_FEW_CORNERS;
+use refusal::TOO_MANY;
 
 fn corner_at(corners: &[f64], k: usize) -> Point
-    requires { ⌜ (k < 64) × (2 * k + 1 < length (now corners)) ⌝ }
+    requires { ⌜ (k < most) × (2 * k + 1 < length (now corners)) ⌝ }
     ensures { λ p. ⌜ p ≡ cornerAt (now (corners .entry)) k ⌝ }
 {
     Point {
@@ -37,21 +36,21 @@ fn corner_at(corners: &[f64], k: usize) -> Point
 
 // The corner after corner k of n.
 fn next_of(n: usize, k: usize) -> usize
-    requires { ⌜ k < 64 ⌝ }
+    requires { ⌜ k < most ⌝ }
     ensures { λ r. ⌜ r ≡ nextOf n k ⌝ }
 {
     if k + 1 < n { k + 1 } else { 0 }
 }
 
 fn x_at(corners: &[f64], k: usize) -> f64
-    requires { ⌜ (k < 64) × (2 * k + 1 < length (now corners)) ⌝ }
+    requires { ⌜ (k < most) × (2 * k + 1 < length (now corners)) ⌝ }
     ensures { λ x. ⌜ x ≡ cornerAt (now (corners .entry)) k .x ⌝ }
 {
     corners[2 * k]
 }
 
 fn y_at(corners: &[f64], k: usize) -> f64
-    requires { ⌜ (k < 64) × (2 * k + 1 < length (now corners)) ⌝ }
+    requires { ⌜ (k < most) × (2 * k + 1 < length (now corners)) ⌝ }
     ensures { λ y. ⌜ y ≡ cornerAt (now (corners .entry)) k .y ⌝ }
 {
     corners[2 * k + 1]
@@ -59,9 +58,9 @@ fn y_at(corners: &[f64], k: usize) -> f64
 
 // Whether p is on the edge from corner k to corner j. Its box is compared before corners are put together: most edges are done with that.
 fn on_edge_at(corners: &[f64], k: usize, j: usize, p: Point) -> bool
-    requires { ⌜ (k < 64) × (2 * k + 1 < length (now corners)) × (j < 64) × (2 * j + 1 < length (now corners)) ⌝ }
+    requires { ⌜ (k < most) × (2 * k + 1 < length (now corners)) × (j < most) × (2 * j + 1 < length (now corners)) ⌝ }
     requires { ⌜ Accepted (cornerAt (now corners) k) × Accepted (cornerAt (now corners) j) × Accepted p ⌝ }
-    ensures { λ r. ⌜ r ≡ onEdge (edge (cornerAt (now (corners .entry)) k) (cornerAt (now (corners .entry)) j)) p ⌝ }
+    ensures { λ r. ⌜ r ≡ onEdge (edge (spotOf (cornerAt (now (corners .entry)) k)) (spotOf (cornerAt (now (corners .entry)) j))) (spotOf p) ⌝ }
 {
     if !lies_between(y_at(corners, k), y_at(corners, j), p.y) {
         return false;
@@ -74,9 +73,9 @@ fn on_edge_at(corners: &[f64], k: usize, j: usize, p: Point) -> bool
 
 // How the edge from corner k to corner j counts. Its heights are compared before corners are put together, likewise.
 fn crosses_at(corners: &[f64], k: usize, j: usize, p: Point) -> Crossing
-    requires { ⌜ (k < 64) × (2 * k + 1 < length (now corners)) × (j < 64) × (2 * j + 1 < length (now corners)) ⌝ }
+    requires { ⌜ (k < most) × (2 * k + 1 < length (now corners)) × (j < most) × (2 * j + 1 < length (now corners)) ⌝ }
     requires { ⌜ Accepted (cornerAt (now corners) k) × Accepted (cornerAt (now corners) j) × Accepted p ⌝ }
-    ensures { λ r. ⌜ r ≡ crossingOf (edge (cornerAt (now (corners .entry)) k) (cornerAt (now (corners .entry)) j)) p ⌝ }
+    ensures { λ r. ⌜ r ≡ crossingOf (edge (spotOf (cornerAt (now (corners .entry)) k)) (spotOf (cornerAt (now (corners .entry)) j))) (spotOf p) ⌝ }
 {
     let a = y_at(corners, k);
     let b = y_at(corners, j);
@@ -99,7 +98,7 @@ struct Counts {
 }
 
 fn with_edge(c: Counts, crossing: Crossing) -> Counts
-    requires { ⌜ (c .ups ≤ 64) × (c .downs ≤ 64) ⌝ }
+    requires { ⌜ (c .ups ≤ most) × (c .downs ≤ most) ⌝ }
     ensures { λ r. ⌜ r ≡ withEdge c crossing ⌝ }
 {
     match crossing {
@@ -118,7 +117,7 @@ fn with_edge(c: Counts, crossing: Crossing) -> Counts
 // All edges, from the last to the first.
 fn counted(corners: &[f64], n: usize, p: Point) -> Counts
     requires { ⌜ Zoned (now corners) n × Accepted p ⌝ }
-    ensures { λ r. ⌜ r ≡ countsOf (edgesOf (cornersOf (now (corners .entry)))) p ⌝ }
+    ensures { λ r. ⌜ r ≡ countsOf (edgesOf (cornersOf (now (corners .entry)))) (spotOf p) ⌝ }
 {
     let mut c = Counts { ups: 0, downs: 0 };
     let mut k = n;
@@ -132,7 +131,7 @@ fn counted(corners: &[f64], n: usize, p: Point) -> Counts
 // The place of an accepted point: the walk ends at the first edge that it is on, or goes on to the count.
 fn place(corners: &[f64], n: usize, p: Point) -> Place
     requires { ⌜ Zoned (now corners) n × Accepted p ⌝ }
-    ensures { λ r. ⌜ placeSaid r ≡ placeOf (edgesOf (cornersOf (now (corners .entry)))) p ⌝ }
+    ensures { λ r. ⌜ placeSaid r ≡ placeIn (now (corners .entry)) p ⌝ }
 {
     let mut k: usize = 0;
     let edge = loop {
@@ -162,7 +161,7 @@ enum Fault {
 
 // Refusal 3 at the first corner's coordinate that is not accepted, from place 2.
 fn corner_fault(corners: &[f64]) -> Fault
-    requires { ⌜ length (now corners) ≤ 128 ⌝ }
+    requires { ⌜ length (now corners) ≤ 2 * most ⌝ }
     ensures { λ r. ⌜ faultSaid r ≡ cornersFault (now (corners .entry)) ⌝ }
 {
     let mut i: usize = 0;

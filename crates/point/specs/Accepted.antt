@@ -1,4 +1,4 @@
--- Accepted coordinates, by 01's section Numbers.
+-- Accepted coordinates: Numbers 6 of docs/RULES.md.
 use Prim.Native.Nat.{ℕ, _+_, _-_, _^_}
 use mathlib.Core.Path.{_≡_}
 use mathlib.Core.Bool.{Bool, false, _&&_, _||_, cond}
@@ -6,11 +6,10 @@ use mathlib.Core.List.{List}
 use lib.Dec.{leb, eqb}
 use lib.Ieee.{Float, nan, inf, fin, binary64, lt, neg, ofBits}
 use Rattle.double.specs.Worth.{mag}
-use Rattle.double.specs.Outcome.{Outcome, notAccepted}
-use Rattle.double.specs.Search.{passingFrom}
+use Rattle.refusal.specs.Outcome.{Outcome, notAccepted}
+use Rattle.refusal.specs.Search.{passingFrom}
 
--- "A coordinate is accepted if it is a zero, or its magnitude is from 2^-400 to 2^400, both ends included":
--- n units of 2^-1074, with k for the 400
+-- Numbers 6: a zero, or at least 2^-400 and at most 2^400 in magnitude: of n units of 2^-1074, with k for the 400
 abbrev pub inRange : ℕ → ℕ → Bool
 inRange k n = eqb n 0 || (leb (2 ^ (1074 - k)) n && leb n (2 ^ (1074 + k)))
 
@@ -30,7 +29,7 @@ acceptedOf x = acceptedWithin reach x
 abbrev pub AcceptedSays : Float → Bool → Type 0
 AcceptedSays x r = r ≡ acceptedOf x
 
--- "coordinate not accepted": refusal 3 at the first such entry of a list whose places begin at i; otherwise the answer
+-- Refusals 3: at the first coordinate that is not accepted, of a list whose places begin at i; otherwise the answer
 abbrev pub acceptingFrom : {A : Type 0} → ℕ → List Float → A → Outcome A
 acceptingFrom i xs answer = passingFrom acceptedOf notAccepted i xs answer
 

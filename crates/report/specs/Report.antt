@@ -1,36 +1,37 @@
--- The report of releases, by 01's section 'Desk and viewer'.
+-- The report of releases: Desk 10 of docs/RULES.md.
 use Prim.Native.Nat.{ℕ, _/_}
 use mathlib.Core.Path.{_≡_}
-use mathlib.Core.List.{List, [], _∷_, _++_}
+use mathlib.Core.List.{List, [], _∷_}
 use lib.Dec.{leb}
-use lib.ListN.{length, drop}
+use lib.ListN.{length}
 use lib.Ieee.{Float}
-use Rattle.double.specs.Outcome.{Outcome, answers, refuses, noRoom}
+use Rattle.refusal.specs.Outcome.{Outcome, answers, refuses, noRoom}
 use Rattle.point.specs.declared.Point.{Point}
-use Rattle.geometry.specs.Zone.{cornersOf, edgesOf, placeOf, placeNumber, Zoned}
-use Rattle.track.specs.Judged.{require, also}
+use Rattle.geometry.specs.Zone.{pointsOf, placeIn}
+use Rattle.ground.specs.Zone.{placeNumber}
+use Rattle.refusal.specs.Judged.{require, also, filled}
 use Rattle.report.specs.Zone.{fileHolds, zoneFileOf}
 use Rattle.report.specs.declared.answer.Report.{Report}
 use Rattle.report.specs.declared.answer.Report.the-variants.{Releases, RefusedZone, RefusedReleases}
 
--- "each line has the release .. and its place", by the number "0, 1, 2 for .. outside, border, inside"
+-- Desk 10: the code of a release: 0 outside, 1 border, 2 inside
 unfoldable pub codeOf : List Float → Point → ℕ
-codeOf corners p = placeNumber (placeOf (edgesOf (cornersOf corners)) p)
+codeOf corners p = placeNumber (placeIn corners p)
 
 unfoldable pub codesOf : List Float → List Point → List ℕ
 unfolding codeOf
 codesOf corners [] = []
 codesOf corners (p ∷ ps) = codeOf corners p ∷ codesOf corners ps
 
--- the codes of a file's releases in a judged zone, or "a refused release file"; last 9, "lent space too short"
+-- Order 10: the codes of a file's releases in a judged zone, or the reader's refusal; last 9 where fewer codes are lent
 unfoldable pub releasesOf : List Float → List ℕ → ℕ → Outcome (List ℕ)
 unfolding codesOf
 releasesOf corners bytes room =
     also (fileHolds bytes) (λ points.
     also (require (leb (length points / 2) room) noRoom 0) (λ _.
-    answers (codesOf corners (cornersOf points))))
+    answers (codesOf corners (pointsOf points))))
 
--- what is told: of the releases; "refused zone N P"; "refused releases N P"
+-- Desk 10: what is told: of the releases; a refusal of the zone (Desk 3); a refusal of the releases (Desk 4)
 pub data Told (A : Type 0) : Type 0 where
   releases : A → Told A
   refusedZone : ℕ → ℕ → Told A
@@ -40,7 +41,7 @@ abbrev pub ofReleases : {A : Type 0} → Outcome A → Told A
 ofReleases (answers a) = releases a
 ofReleases (refuses number place) = refusedReleases number place
 
--- "The zone is .. judged before the release file is opened"
+-- Desk 2: the zone is judged first, and the releases only in a good zone
 abbrev pub afterZone : {A B : Type 0} → Outcome A → (A → Outcome B) → Told B
 afterZone (answers corners) next = ofReleases (next corners)
 afterZone (refuses number place) next = refusedZone number place
@@ -49,19 +50,23 @@ unfoldable pub reportOf : List ℕ → List ℕ → ℕ → Told (List ℕ)
 unfolding zoneFileOf releasesOf
 reportOf zone bytes room = afterZone (zoneFileOf zone) (λ corners. releasesOf corners bytes room)
 
--- "the number of releases"
+-- Desk 10: the number of releases is answered
 abbrev pub numberSaid : Told (List ℕ) → Told ℕ
 numberSaid (releases codes) = releases (length codes)
 numberSaid (refusedZone number place) = refusedZone number place
 numberSaid (refusedReleases number place) = refusedReleases number place
 
--- lent bytes after a call: the codes stand at their start and later ones stay; "A refusal .. writes nothing"
-abbrev pub lentAfter : Told (List ℕ) → List ℕ → List ℕ
-lentAfter (releases codes) lent = codes ++ drop (length codes) lent
-lentAfter (refusedZone number place) lent = lent
-lentAfter (refusedReleases number place) lent = lent
+-- an answer, or a refusal of either file
+abbrev pub outcomeOf : {A : Type 0} → Told A → Outcome A
+outcomeOf (releases a) = answers a
+outcomeOf (refusedZone number place) = refuses number place
+outcomeOf (refusedReleases number place) = refuses number place
 
--- 01's number and values for each case of the answer
+-- Desk 10: the codes stand at the start of the lent bytes and later ones stay. Order 1: all stay after a refusal
+abbrev pub lentAfter : Told (List ℕ) → List ℕ → List ℕ
+lentAfter told lent = filled (outcomeOf told) lent
+
+-- Answer 4: the rules' values, or number and place, for each case of the code's answer
 abbrev pub reportSaid : Report → Told ℕ
 reportSaid (Releases n) = releases n
 reportSaid (RefusedZone r) = refusedZone (r .number) (r .place)
@@ -75,17 +80,3 @@ pub record Tells (told : Told (List ℕ)) (lent : List ℕ) (r : Report) (left :
 -- the promise
 abbrev pub ReportSays : List ℕ → List ℕ → List ℕ → Report → List ℕ → Type 0
 ReportSays zone bytes lent r left = Tells (reportOf zone bytes (length lent)) lent r left
-
--- ---- of the parts
-
--- corners of a zone that is not refused
-abbrev pub IsZone : List Float → Type 0
-IsZone corners = Zoned corners (length corners / 2)
-
--- the promise for the release file in such a zone
-abbrev pub CodedSays : List Float → List ℕ → List ℕ → Report → List ℕ → Type 0
-CodedSays corners bytes lent r left = Tells (ofReleases (releasesOf corners bytes (length lent))) lent r left
-
--- lent bytes after the codes of a list of releases are written
-abbrev pub codesThen : List Float → List Float → List ℕ → List ℕ
-codesThen corners points lent = codesOf corners (cornersOf points) ++ drop (length points / 2) lent

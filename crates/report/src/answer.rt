@@ -1,5 +1,5 @@
 // Every answer of this crate.
-use double::refusal::Refusal;
+use refusal::Refusal;
 
 pub enum Judged {
     // The number of corners, 3 to 64.

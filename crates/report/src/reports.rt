@@ -1,12 +1,13 @@
 // The report: the places of all releases.
-ghost use Rattle.report.specs.Report.{IsZone, CodedSays, ReportSays};
+ghost use Rattle.report.specs.Report.{ReportSays};
+ghost use Rattle.report.specs.Parts.{IsZone, CodedSays};
 use crate::answer::Judged;
 use crate::answer::Report;
 use crate::places::put_codes;
 use crate::room::zeros;
 use crate::zones::judged;
-use double::refusal::NO_ROOM;
-use double::refusal::Refusal;
+use refusal::NO_ROOM;
+use refusal::Refusal;
 use track::answer::Reading;
 
 // The codes of a file's releases in a judged zone.

@@ -3,9 +3,7 @@ ghost use mathlib.Core.Path.{_≡_};
 ghost use Prim.Native.Nat.{_*_};
 ghost use lib.ListN.{length};
 ghost use Rattle.track.specs.File.{limit};
-
-// Two coordinates for each of the most points of a file.
-const COORDINATES: usize = 1024;
+use track::limit::COORDINATES;
 
 pub fn zeros() -> [f64; COORDINATES]
     ensures { λ r. ⌜ 2 * limit ≡ length r ⌝ }

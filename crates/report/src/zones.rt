@@ -3,18 +3,16 @@ ghost use mathlib.Core.Path.{_≡_};
 ghost use Prim.Native.Nat.{_*_};
 ghost use lib.ListN.{length};
 ghost use Rattle.track.specs.File.{limit};
-ghost use Rattle.report.specs.Zone.{JudgeSays, JudgedHeld};
+ghost use Rattle.report.specs.Zone.{JudgeSays};
+ghost use Rattle.report.specs.Parts.{JudgedHeld};
 use crate::answer::Judged;
 use crate::room::zeros;
-use double::refusal::Refusal;
-use double::refusal::TOO_FEW_CORNERS;
-use double::refusal::TOO_MANY;
+use geometry::limit::FEWEST;
+use geometry::limit::MOST;
+use refusal::Refusal;
+use refusal::TOO_FEW_CORNERS;
+use refusal::TOO_MANY;
 use track::answer::Reading;
-
-// A zone has 3 to 64 corners.
-const FEWEST: usize = 3;
-
-const MOST: usize = 64;
 
 fn refused(number: u32) -> Judged
     ensures { λ r. ⌜ r ≡ Judged.Refused (record { number = number; place = 0 }) ⌝ }

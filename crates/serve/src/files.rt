@@ -4,9 +4,10 @@ ghost use Prim.Native.Nat.{_+_};
 ghost use lib.ListN.{length};
 ghost use Rattle.track.specs.File.{mostBytes};
 use libc::EINTR;
+use track::limit::BYTES;
 
 // Bytes that are read of a file: one more than the longest has, and more can not alter the first refusal.
-const FILE: usize = 10243;
+const FILE: usize = BYTES + 1;
 
 pub fn room() -> [u8; FILE]
     ensures { λ r. ⌜ mostBytes + 1 ≡ length r ⌝ }

@@ -2,8 +2,8 @@
 mod files;
 mod text;
 
-use double::refusal::Refusal;
 use files::Held;
+use refusal::Refusal;
 use report::answer::Judged;
 use text::TEXT;
 

@@ -3,17 +3,16 @@ ghost use mathlib.Core.Path.{_≡_};
 ghost use Prim.Native.Nat.{_+_, _≤_};
 ghost use lib.ListN.{length, take};
 ghost use Rattle.report.specs.Report.{reportOf, releases, refusedZone};
-ghost use Rattle.serve.specs.Text.{decimal, placeText, lineText, headerText, refusalText, textOf, Puts};
-use double::refusal::Refusal;
+ghost use Rattle.serve.specs.Text.{decimal, placeText, lineText, headerText, refusalText, textOf};
+ghost use Rattle.serve.specs.Parts.{Puts};
 use libc::EINTR;
 use libc::STDOUT_FILENO;
+use refusal::Refusal;
 use report::answer::Report;
+use track::limit::POINTS;
 
 // Room for every text: a header of at most 30 bytes, and 512 lines of at most 29.
 pub const TEXT: usize = 16384;
-
-// A file has no more points.
-const RELEASES: usize = 512;
 
 pub fn say(text: &[u8]) {
     let mut done: usize = 0;
@@ -47,7 +46,7 @@ pub fn text_of(zone: &[u8], releases: &[u8], out: &mut [u8]) -> usize
     requires { ⌜ 16384 ≤ length (now out) ⌝ }
     ensures { λ r. ⌜ take r (now (out .exit)) ≡ textOf (reportOf (now (zone .entry)) (now (releases .entry)) 512) ⌝ }
 {
-    let mut codes = [0u8; RELEASES];
+    let mut codes = [0u8; POINTS];
     match report::report(zone, releases, &mut codes) {
         Report::Releases(n) => put_releases(out, &codes[..n]),
         Report::RefusedZone(r) => put_refusal(out, b"refused zone ", r),

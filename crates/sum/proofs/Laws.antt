@@ -1,7 +1,7 @@
 -- The laws of the sum, each file over those above it.
 -- which lists are refused
 pub mod Refused
--- what a look decides
+-- a sign by its number; what a look decides
 pub mod Look
 -- the one pass that finds both extremes
 pub mod Tally

@@ -1,4 +1,4 @@
--- The ceiling of a list. u, the largest power of two that divides each nonzero entry, is 2 ^ grain units of 2^-1074.
+-- The ceiling of a list: docs/RULES.md, section Ceiling. The grain u is 2 ^ grain units of 2^-1074.
 use Prim.Native.Nat.{ℕ, _+_, _-_, _/_, _^_, min}
 use mathlib.Core.Path.{_≡_}
 use mathlib.Core.Bool.{cond}
@@ -7,7 +7,7 @@ use lib.Count.{trailingZeros}
 use lib.Dec.{eqb}
 use lib.Ieee.{Float, binary64, size}
 use Rattle.double.specs.Worth.{mag}
-use Rattle.double.specs.Outcome.{Outcome, answers, refuses}
+use Rattle.refusal.specs.Outcome.{Outcome, answers, refuses}
 use Rattle.sum.specs.Limit.{divisor}
 use Rattle.sum.specs.Refused.{checked}
 use Rattle.sum.specs.declared.answer.Ceiling.{Ceiling}
@@ -17,32 +17,33 @@ use Rattle.sum.specs.declared.answer.Ceiling.the-variants.{Steps, Refuse
 abbrev pub digits : ℕ
 digits = 2098
 
--- "the largest power of two that divides each nonzero entry exactly"; where every entry is a zero, any will do
+-- Ceiling 1: the largest power of two that divides every entry other than a zero; where every entry is a zero, any will do
 unfoldable pub grainOf : List Float → ℕ
 unfolding trailingZeros
 grainOf [] = digits
 grainOf (x ∷ xs) = cond (eqb (mag binary64 x) 0) (grainOf xs) (min (trailingZeros digits (mag binary64 x)) (grainOf xs))
 
--- "divide by 43, round up"
+-- Ceiling 2: n divided by d and rounded up
 abbrev pub roundUp : ℕ → ℕ → ℕ
 roundUp d n = (n + (d - 1)) / d
 
--- "For each entry take the bit length of its magnitude divided by u (0 for zero), divide by 43, round up, and add."
+-- Ceiling 2: all shares: the length of each magnitude over the grain, divided by d and rounded up. Ceiling 3: a zero adds 0
 unfoldable pub weightOf : ℕ → ℕ → List Float → ℕ
 unfolding size
 weightOf d j [] = 0
 weightOf d j (x ∷ xs) = roundUp d (size (mag binary64 x / 2 ^ j)) + weightOf d j xs
 
+-- Ceiling 2 and 5: the ceiling of the list as handed in, with 43 for d
 unfoldable pub ceilingOf : List Float → ℕ
 unfolding grainOf weightOf
 ceilingOf xs = weightOf divisor (grainOf xs) xs
 
--- this paper's number and value for each case of the answer
+-- Answer 4: the rules' values, or number and place, for each case of the code's answer
 unfoldable pub ceilingSaid : Ceiling → Outcome ℕ
 ceilingSaid (Steps n) = answers n
 ceilingSaid (Refused r) = refuses (r .number) (r .place)
 
--- what `ceiling` answers
+-- what `ceiling` answers. Ceiling 4, that a run with this budget decides and none takes more steps, is a law (Laws.Calls)
 unfoldable pub ceilingAnswer : List Float → Outcome ℕ
 unfolding checked ceilingOf
 ceilingAnswer xs = checked xs (ceilingOf xs)

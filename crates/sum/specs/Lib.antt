@@ -1,6 +1,6 @@
--- What a reader must believe of a sum, by 01's section 'The sum, step by step'. In order: the list's limit and the ceiling's divisor; the
--- refusals; the exact total and the sign; the look; the step; the run; the ceiling; the plain sum. Tally and Words
--- are what inner functions find.
+-- What a reader must believe of a sum: docs/RULES.md, sections Sum, Ceiling and Plain. In order: the list's limit and the ceiling's
+-- divisor; the refusals; the exact total and the sign; the look; the step; the run; the ceiling; the plain sum. Tally, Words and Parts are
+-- what inner functions find.
 pub mod Limit
 pub mod Refused
 pub mod Total
@@ -11,3 +11,4 @@ pub mod Ceiling
 pub mod Plain
 pub mod Tally
 pub mod Words
+pub mod Parts

@@ -4,10 +4,10 @@ use Prim.Native.Nat.{ℕ, _-_, _^_}
 abbrev pub power : ℕ
 power = 10
 
--- "sum list over 1,024" is refused
+-- Sum 1: the most entries of a list, 1,024
 abbrev pub limit : ℕ
 limit = 2 ^ power
 
--- "divide by 43": a double's 53 digits, less the power
+-- Ceiling 2: the 43 is a double's 53 digits, less the power
 abbrev pub divisor : ℕ
 divisor = 53 - power

@@ -1,10 +1,11 @@
--- A run: looks and steps, as far as a budget goes; and what `run` promises.
+-- A run: looks and steps, as far as a budget goes; and what `run` promises: Sum 13 to 17 of docs/RULES.md.
 use Prim.Native.Nat.{ℕ, zero, suc, _+_, _-_, _^_, _<_}
 use mathlib.Core.Path.{_≡_}
 use mathlib.Core.List.{List}
 use lib.IntN.{ℤ}
 use lib.Ieee.{Float}
-use Rattle.double.specs.Outcome.{Outcome, answers, refuses}
+use Rattle.refusal.specs.Outcome.{Outcome, answers, refuses}
+use Rattle.refusal.specs.Judged.{leaves}
 use Rattle.sum.specs.Refused.{checked}
 use Rattle.sum.specs.Total.{signNumber}
 use Rattle.sum.specs.Look.{verdictOf}
@@ -12,7 +13,6 @@ use Rattle.sum.specs.Step.{stepOf}
 use Rattle.sum.specs.declared.answer.Sign.{Sign}
 use Rattle.sum.specs.declared.answer.Verdict.{Verdict}
 use Rattle.sum.specs.declared.answer.Verdict.the-variants.{Decided, Undecided}
-use Rattle.sum.specs.declared.answer.Ran.{Ran}
 use Rattle.sum.specs.declared.answer.Run.{Run}
 use Rattle.sum.specs.declared.answer.Run.the-variants.{Done, Refused}
 
@@ -25,7 +25,7 @@ pub record Reached : Type 0 where
 abbrev pub reached : Verdict → ℕ → List Float → Reached
 reached v k xs = record { verdict = v; steps = k; left = xs }
 
--- "It looks, and steps only while undecided and the steps taken are below the budget": `more` are left of it, k are taken
+-- Sum 13: looks, and steps while the look is undecided and steps are left: `more` are left of the budget, k are taken
 unfoldable pub ranFrom : ℕ → ℕ → List Float → Reached
 unfolding verdictOf stepOf
 ranFrom zero k xs = reached (verdictOf xs) k xs
@@ -37,18 +37,18 @@ unfolding stepOf
 after zero xs = xs
 after (suc n) xs = after n (stepOf xs)
 
--- "exactly the number of steps that the published method takes", whatever the budget: a look decides after n steps, and after no fewer
+-- Sum 17: the steps that settle a list, whatever the budget: a look decides after n of them, and after no fewer
 pub record Settles (xs : List Float) (n : ℕ) : Type 0 where
   pub decides : (s : Sign) × (verdictOf (after n xs) ≡ Decided s)
   pub before : (i : ℕ) → i < n → verdictOf (after i xs) ≡ Undecided
 
--- a budget is "a 32-bit count": the greatest one
+-- Sum 13: the greatest budget, a count of 32 bits
 abbrev pub mostBudget : ℕ
 mostBudget = 2 ^ 32 - 1
 
 -- ---- the answer
 
--- "The answer holds the sign, or 'undecided', and the steps taken."
+-- Sum 14: the sign, or undecided; and with it the steps
 pub data Decision : Type 0 where
   sign : ℤ → Decision
   undecided : Decision
@@ -64,23 +64,20 @@ pub record Told : Type 0 where
 abbrev pub told : Verdict → ℕ → Told
 told v k = record { decided = decision v; steps = k }
 
--- this paper's numbers and values for each case of the answer
+-- Answer 4: the rules' values, or number and place, for each case of the code's answer
 unfoldable pub said : Run → Outcome Told
 said (Done r) = answers (told (r .verdict) (r .steps))
 said (Refused r) = refuses (r .number) (r .place)
 
+-- Sum 14 and 16: what `run` answers: undecided only if a look after all steps of the budget is
 unfoldable pub runOf : List Float → ℕ → Outcome Told
 unfolding checked ranFrom
 runOf xs budget = checked xs (told (ranFrom budget 0 xs .verdict) (ranFrom budget 0 xs .steps))
 
--- "The list then holds the state after that many steps"; a refused call writes nothing
-abbrev pub kept : {A : Type 0} → Outcome A → List Float → List Float → List Float
-kept (answers a) xs ys = ys
-kept (refuses n p) xs ys = xs
-
+-- Sum 15: the list as the steps leave it; a refused call leaves it as it was
 unfoldable pub leftOf : List Float → ℕ → List Float
 unfolding runOf ranFrom
-leftOf xs budget = kept (runOf xs budget) xs (ranFrom budget 0 xs .left)
+leftOf xs budget = leaves (runOf xs budget) (λ _. ranFrom budget 0 xs .left) xs
 
 -- ---- the promises
 
@@ -88,9 +85,3 @@ leftOf xs budget = kept (runOf xs budget) xs (ranFrom budget 0 xs .left)
 pub record RunSays (xs : List Float) (budget : ℕ) (r : Run) (after : List Float) : Type 0 where
   pub answer : said r ≡ runOf xs budget
   pub left : after ≡ leftOf xs budget
-
--- the same for the inner run, on a list that is not refused
-pub record RanSays (xs : List Float) (budget : ℕ) (r : Ran) (after : List Float) : Type 0 where
-  pub verdict : r .verdict ≡ ranFrom budget 0 xs .verdict
-  pub steps : r .steps ≡ ranFrom budget 0 xs .steps
-  pub left : after ≡ ranFrom budget 0 xs .left

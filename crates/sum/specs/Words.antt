@@ -1,4 +1,4 @@
--- The total of a plain sum: "33 words of 64 bits, two's complement", the lowest first, in units of 2^-1074.
+-- The total of a plain sum: Plain 1 of docs/RULES.md. Words of 64 bits, two's complement, the lowest first, in units of 2^-1074.
 use Prim.Native.Nat.{ℕ, _+_, _-_, _*_, _^_, _≤_, _<_}
 use mathlib.Core.Path.{_≡_}
 use mathlib.Core.Bool.{cond}
@@ -9,11 +9,11 @@ use Rattle.double.specs.declared.answer.Parts.{Parts}
 use Rattle.sum.specs.declared.answer.Sign.{Sign}
 use Rattle.sum.specs.declared.answer.Sign.the-variants.{Minus, Zero, Plus}
 
--- "of 64 bits": a word is below
+-- Plain 1: a word has 64 bits, and is below this
 abbrev pub base : ℕ
 base = 2 ^ 64
 
--- "33 words"
+-- Plain 1: how many words there are
 abbrev pub count : ℕ
 count = 33
 
@@ -52,7 +52,7 @@ modulus = base ^ count
 unfoldable pub half : ℕ
 half = base ^ (count - 1) * 2 ^ 63
 
--- "two's complement": from half the modulus on, where the top bit of the highest word is set, a total is below 0
+-- Plain 1: two's complement: from half the modulus on, where the top bit of the highest word is set, a total is below 0
 unfoldable pub signHeld : ℕ → Sign
 unfolding half
 signHeld v = cond (leb half v) Minus (cond (eqb v 0) Zero Plus)

@@ -1,5 +1,5 @@
 // Every answer of this crate.
-use double::refusal::Refusal;
+use refusal::Refusal;
 
 pub enum Sign {
     Minus,

@@ -1,10 +1,10 @@
 // Which lists are refused.
 ghost use mathlib.Core.Path.{_≡_};
 ghost use lib.Ieee.Scale.{finite};
-ghost use Rattle.sum.specs.Refused.{found, faultOf};
-use double::refusal::NOT_FINITE;
-use double::refusal::Refusal;
-use double::refusal::TOO_MANY;
+ghost use Rattle.sum.specs.Parts.{found, faultOf};
+use refusal::NOT_FINITE;
+use refusal::Refusal;
+use refusal::TOO_MANY;
 
 // The greatest length of a list.
 pub const LIMIT: usize = 1024;

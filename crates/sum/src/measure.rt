@@ -7,7 +7,7 @@ ghost use lib.Dec.{T};
 ghost use lib.Ieee.{binary64, size};
 ghost use lib.Ieee.Scale.{finite};
 ghost use Rattle.double.specs.Apart.{apartOf};
-ghost use Rattle.double.specs.Outcome.{answers};
+ghost use Rattle.refusal.specs.Outcome.{answers};
 ghost use Rattle.double.specs.Worth.{mag};
 ghost use Rattle.sum.specs.Limit.{divisor};
 ghost use Rattle.sum.specs.Refused.{Accepted, AllFinite};

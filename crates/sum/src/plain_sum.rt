@@ -6,10 +6,10 @@ use crate::words::WORDS;
 use crate::words::put;
 use crate::words::sign_of;
 use double::answer::Taken;
-use double::refusal::NOT_FINITE;
-use double::refusal::Refusal;
-use double::refusal::TOO_MANY;
 use double::take_apart;
+use refusal::NOT_FINITE;
+use refusal::Refusal;
+use refusal::TOO_MANY;
 
 // The sign of the list's total. One pass: an entry that has no parts is the first that is not finite.
 pub fn plain(list: &[f64]) -> Plain

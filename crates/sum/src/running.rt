@@ -1,6 +1,7 @@
 // A run: looks and steps, as far as a budget goes.
 ghost use Rattle.sum.specs.Refused.{Accepted};
-ghost use Rattle.sum.specs.Run.{RanSays, RunSays};
+ghost use Rattle.sum.specs.Run.{RunSays};
+ghost use Rattle.sum.specs.Parts.{RanSays};
 use crate::answer::Ran;
 use crate::answer::Run;
 use crate::answer::Verdict;

@@ -1,6 +1,7 @@
 // One step: the two extremes become their rounded sum and its roundoff.
 ghost use mathlib.Core.Path.{_≡_};
-ghost use Rattle.sum.specs.Step.{Opposed, ExactSum, stepOf};
+ghost use Rattle.sum.specs.Step.{stepOf};
+ghost use Rattle.sum.specs.Parts.{Opposed, ExactSum};
 ghost use Rattle.sum.specs.Tally.{Stepping};
 use crate::look::Tally;
 

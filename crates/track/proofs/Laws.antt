@@ -1,6 +1,4 @@
 -- The laws of the track file, each file over those above it.
--- what is judged after an answer, and after a refusal
-pub mod Judged
 -- a number as it is written
 pub mod Written
 -- the number that any bytes begin with

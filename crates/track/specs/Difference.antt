@@ -1,18 +1,18 @@
--- The difference of two patterns, as the track file stores it, by 01's section 'The track file'.
+-- The difference of two patterns, as the track file stores it: Track 5 and 6 of docs/RULES.md.
 use Prim.Native.Nat.{ℕ, _+_, _-_, _*_, _/_, _%_, _^_}
 use mathlib.Core.Bool.{cond}
 use lib.Dec.{eqb, ltb}
 use lib.IntN.{ℤ, pos, negsuc}
 
--- "the 64-bit pattern minus the preceding pattern of that axis (at first 0), wrapping at 2^64"
+-- Track 5: a pattern less the one that came before it on its axis, wrapping at 2^64
 abbrev pub difference : ℕ → ℕ → ℕ
 difference pattern before = (pattern + (2 ^ 64 - before)) % 2 ^ 64
 
--- "read as signed d": p below 2^63 is itself, any other is p - 2^64 (`negsuc n` is -(n+1))
+-- Track 6: that difference as a signed number d: p below 2^63 is itself, any other is p - 2^64 (`negsuc n` is -(n+1))
 abbrev pub signed : ℕ → ℤ
 signed p = cond (ltb p (2 ^ 63)) (pos p) (negsuc (2 ^ 64 - 1 - p))
 
--- "stored as 2d for d ≥ 0 and as -2d-1 for d < 0"
+-- Track 6: 2d is stored if d is 0 or above, -2d-1 if d is below 0
 abbrev pub folded : ℤ → ℕ
 folded (pos n) = 2 * n
 folded (negsuc n) = 2 * n + 1

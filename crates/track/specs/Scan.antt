@@ -1,11 +1,11 @@
--- The coordinates of a file up to what stops a reader, by 01's sections 'The track file' and 'Refusal numbers'.
+-- The coordinates of a file up to what stops a reader: Track 4 and 7 and Order 8 of docs/RULES.md.
 use Prim.Native.Nat.{ℕ, zero, suc}
 use mathlib.Core.List.{List, [], _∷_}
 use lib.Dec.{leb}
 use lib.ListN.{length}
 use lib.Ieee.{Float}
-use Rattle.double.specs.Outcome.{Outcome, answers, refuses, bytesAfter}
-use Rattle.track.specs.Judged.{require}
+use Rattle.refusal.specs.Outcome.{Outcome, answers, refuses, bytesAfter}
+use Rattle.refusal.specs.Judged.{require}
 use Rattle.track.specs.Coordinate.{coordinateOf}
 use Rattle.track.specs.declared.coordinate.Coordinate.{Coordinate}
 
@@ -15,13 +15,13 @@ pub record Scan : Type 0 where
   pub coordinates : List Coordinate
   pub stop : Outcome Unit
 
--- "Order": a coordinate and the scan of what follows it; a refusal is the last
+-- Order 2: a coordinate and the scan of what follows it; a refusal is the last
 abbrev pub coordinateThen : Outcome Coordinate → (Coordinate → Scan) → Scan
 coordinateThen (answers c) rest = record { coordinates = c ∷ rest c .coordinates; stop = rest c .stop }
 coordinateThen (refuses number place) rest = record { coordinates = []; stop = refuses number place }
 
--- "number by number 6 or 7, then 3 at that number's offset; last 8": the last n coordinates of a file, which begin at an offset, after the
--- preceding pattern of the axis whose turn it is and that of the other
+-- Order 8: the last n coordinates of a file, which begin at an offset, after the pattern that came before on the axis whose turn it is and
+-- that of the other: number by number 6 or 7 and then 3. Track 7: bytes behind the last number are 8
 unfoldable pub scanFrom : List ℕ → ℕ → ℕ → ℕ → ℕ → Scan
 unfolding coordinateOf
 scanFrom bytes start before other zero = record { coordinates = []; stop = require (leb (length bytes) start) bytesAfter start }

@@ -1,5 +1,5 @@
 // Every answer of this crate's public calls.
-use double::refusal::Refusal;
+use refusal::Refusal;
 
 pub enum Writing {
     // The length of the file, whose bytes stand at the start of the lent bytes.

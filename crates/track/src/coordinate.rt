@@ -1,12 +1,12 @@
 // One coordinate of a file: the leaf of every reading of tracks.
 ghost use mathlib.Core.Path.{_≡_};
-ghost use Rattle.double.specs.Outcome.{refuses, notAccepted};
+ghost use Rattle.refusal.specs.Outcome.{refuses, notAccepted};
 ghost use Rattle.track.specs.Coordinate.{heard, coordinateOf, judgedOf};
 use crate::difference::restored;
 use crate::number::Numeral;
 use crate::number::number_at;
-use double::refusal::NOT_ACCEPTED;
-use double::refusal::Refusal;
+use refusal::NOT_ACCEPTED;
+use refusal::Refusal;
 
 // A coordinate: its value, its pattern as it is stored, and the offset after its number.
 pub struct Coordinate {

@@ -4,7 +4,7 @@
 pub mod answer;
 mod coordinate;
 mod difference;
-mod limit;
+pub mod limit;
 mod number;
 mod reader;
 mod writer;

@@ -3,11 +3,11 @@ ghost use mathlib.Core.Path.{_≡_};
 ghost use Prim.Native.Nat.{_+_, _≤_};
 ghost use lib.ListN.{length};
 ghost use lib.Seq.{sets};
-ghost use Rattle.double.specs.Outcome.{refuses};
+ghost use Rattle.refusal.specs.Outcome.{refuses};
 ghost use Rattle.track.specs.Number.{heard, numberOf, writtenOf};
-use double::refusal::ENDS_EARLY;
-use double::refusal::NOT_SHORTEST;
-use double::refusal::Refusal;
+use refusal::ENDS_EARLY;
+use refusal::NOT_SHORTEST;
+use refusal::Refusal;
 
 // A number, and the offset after it.
 pub struct Number {

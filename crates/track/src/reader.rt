@@ -3,9 +3,10 @@ ghost use mathlib.Core.Path.{_≡_};
 ghost use mathlib.Core.List.{_++_};
 ghost use Prim.Native.Nat.{_*_, _≤_};
 ghost use lib.ListN.{length, take, drop};
-ghost use Rattle.double.specs.Outcome.{refuses};
+ghost use Rattle.refusal.specs.Outcome.{refuses};
 ghost use Rattle.track.specs.File.{limit};
-ghost use Rattle.track.specs.Read.{said, ReadSays, Promised, CountedSays, decoded, coordinatesOf};
+ghost use Rattle.track.specs.Read.{said, ReadSays, coordinatesOf};
+ghost use Rattle.track.specs.Parts.{Promised, CountedSays, decoded};
 use crate::answer::Reading;
 use crate::coordinate::Located;
 use crate::coordinate::coordinate_at;
@@ -14,10 +15,10 @@ use crate::limit::POINTS;
 use crate::number::Number;
 use crate::number::Numeral;
 use crate::number::number_at;
-use double::refusal::BYTES_AFTER;
-use double::refusal::NO_ROOM;
-use double::refusal::Refusal;
-use double::refusal::TOO_MANY;
+use refusal::BYTES_AFTER;
+use refusal::NO_ROOM;
+use refusal::Refusal;
+use refusal::TOO_MANY;
 
 enum Decoded {
     // Every coordinate stands in the list.

@@ -3,19 +3,20 @@ ghost use mathlib.Core.Path.{_≡_};
 ghost use Prim.Native.Nat.{_+_, _*_, _≤_};
 ghost use lib.ListN.{length};
 ghost use lib.Seq.{sets};
-ghost use Rattle.double.specs.Outcome.{refuses};
+ghost use Rattle.refusal.specs.Outcome.{refuses};
 ghost use Rattle.track.specs.File.{limit, coordinateBytes};
-ghost use Rattle.track.specs.Write.{said, WriteSays, measured, measureOf, AllAccepted};
+ghost use Rattle.track.specs.Write.{said, WriteSays, AllAccepted};
+ghost use Rattle.track.specs.Parts.{measured, measureOf};
 use crate::answer::Writing;
 use crate::difference::stored;
 use crate::limit::COORDINATES;
 use crate::number::number_len;
 use crate::number::put_number;
-use double::refusal::NO_ROOM;
-use double::refusal::NOT_ACCEPTED;
-use double::refusal::ODD_LENGTH;
-use double::refusal::Refusal;
-use double::refusal::TOO_MANY;
+use refusal::NO_ROOM;
+use refusal::NOT_ACCEPTED;
+use refusal::ODD_LENGTH;
+use refusal::Refusal;
+use refusal::TOO_MANY;
 
 enum Measured {
     // How many bytes all coordinates take.

@@ -1,20 +1,20 @@
--- Doubles from patterns, and patterns from bytes, by 01's section 'Desk and viewer'.
+-- Doubles from patterns, and patterns from bytes: Viewer 1 and 2 of docs/RULES.md.
 use Prim.Native.Nat.{ℕ, zero, suc, _+_, _*_, _/_}
 use mathlib.Core.List.{List, [], _∷_}
 use lib.ListN.{length, take, drop}
 use lib.Ieee.{Float, binary64, ofBits}
 use Rattle.point.specs.declared.Point.{Point}
 
--- "64-bit patterns": two of them are a point
+-- Viewer 1: the point that two patterns of 64 bits are
 abbrev pub pointOf : ℕ → ℕ → Point
 pointOf x y = record { x = ofBits binary64 x; y = ofBits binary64 y }
 
--- "little-endian": the lowest byte first, so that byte i counts 256^i
+-- Viewer 2: little-endian: the lowest byte first, so that byte i counts 256^i
 abbrev pub littleEndian : List ℕ → ℕ
 littleEndian [] = 0
 littleEndian (b ∷ bytes) = b + 256 * littleEndian bytes
 
--- the bytes of a pattern, and "corners, 16 bytes each": x, then y
+-- Viewer 2: the bytes of a pattern, and of a corner: x, then y
 abbrev pub patternBytes : ℕ
 patternBytes = 8
 

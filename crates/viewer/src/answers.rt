@@ -2,7 +2,8 @@
 ghost use mathlib.Core.Path.{_≡_};
 ghost use Prim.Native.Nat.{_+_, _≤_};
 ghost use Rattle.sum.specs.Total.{signNumber};
-ghost use Rattle.geometry.specs.Zone.{placeSaid, placeNumber};
+ghost use Rattle.geometry.specs.Zone.{placeSaid};
+ghost use Rattle.ground.specs.Zone.{placeNumber};
 ghost use Rattle.viewer.specs.Entries.{signAnswer, base};
 use geometry::answer::Place;
 use sum::answer::Sign;

@@ -8,18 +8,15 @@ use crate::answers::place_answer;
 use crate::answers::refusal_answer;
 use crate::bytes::decode;
 use crate::bytes::point_of;
-use double::refusal::ODD_LENGTH;
-use double::refusal::TOO_FEW_CORNERS;
-use double::refusal::TOO_MANY;
 use geometry::answer::Zone;
+use geometry::limit::FEWEST;
+use geometry::limit::MOST;
+use refusal::ODD_LENGTH;
+use refusal::TOO_FEW_CORNERS;
+use refusal::TOO_MANY;
 
 // The bytes of a corner: x, then y.
 const CORNER: usize = 16;
-
-// A zone has 3 to 64 corners.
-const FEWEST: usize = 3;
-
-const MOST: usize = 64;
 
 // Room for the doubles of the most corners.
 const ROOM: usize = 2 * MOST;

@@ -1,6 +1,5 @@
 -- `ask::feed` is safe and ends: each turn takes one byte of the input. Assumes nothing.
 use Prim.Native.Nat.{_-_}
-use mathlib.Core.Path.{_≡_}
 use lib.ListN.{length}
 use borrow.Author.Needs.{needs}
 use Rattle.ask.proofs.feed.Statement.{statement}
@@ -8,13 +7,16 @@ use Rattle.ask.proofs.feed.Tie as tie
 use Rattle.ask.proofs.feed.Reads as reads
 use Rattle.ask.proofs.feed.Lts as lts
 use Rattle.ask.proofs.fed.Reads as fed-reads
+use Rattle.ask.proofs.part.first.Reads as first-reads
 
 abbrev Inv-loop : tie.InvT-loop
-Inv-loop input token₀ list₀ out₀ line₀ len₀ i₀ token list out line len i =
-    (length token ≡ length token₀) × (length list ≡ length list₀) × (length out ≡ length out₀)
+Inv-loop input n token₀ list₀ out₀ bytes left₀ i₀ token list out left i = Unit
 
 abbrev μ-loop : tie.MeasureT-loop
-μ-loop input token₀ list₀ out₀ line₀ len₀ i₀ token list out line len i = length input - i
+μ-loop input n token₀ list₀ out₀ bytes left₀ i₀ token list out left i = length bytes - i
+
+first-requires : tie.Need-first-requires Inv-loop μ-loop
+first-requires c κs = search needs
 
 loop-holds : tie.Need-loop-holds Inv-loop μ-loop
 loop-holds c = search needs
@@ -34,15 +36,6 @@ loop-less c = search needs
 loop-again : tie.Need-loop-again Inv-loop μ-loop
 loop-again c = search needs
 
-same-length : tie.Need-same-length Inv-loop μ-loop
-same-length c = search needs
-
-same-length-2 : tie.Need-same-length-2 Inv-loop μ-loop
-same-length-2 c = search needs
-
-same-length-3 : tie.Need-same-length-3 Inv-loop μ-loop
-same-length-3 c = search needs
-
 returns : tie.Need-returns Inv-loop μ-loop
 returns c = search needs
 
@@ -52,13 +45,11 @@ feed-spec =
     (tie.spec
     Inv-loop
     μ-loop
+    first-requires
     loop-holds
     shared-slice-read-fed
     fed-requires
     add-i
     loop-less
     loop-again
-    same-length
-    same-length-2
-    same-length-3
     returns)

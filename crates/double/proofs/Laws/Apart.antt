@@ -17,12 +17,12 @@ use lib.Ieee.Fits.{kept-lt}
 use lib.Ieee.Scale.{finite, overflow}
 use borrow.Author.Tests.{le-leb, lt-leb}
 use Rattle.double.specs.Worth.{mag, worth, ofUnits}
-use Rattle.double.specs.Outcome.{Outcome, answers, refuses, notFinite, Fixes}
+use Rattle.refusal.specs.Outcome.{Outcome, answers, refuses, notFinite, Fixes}
 use Rattle.double.specs.Apart.{said, apartOf, TakenSays, exponentOf, significandOf, together}
 use Rattle.double.proofs.Laws.Digits.{Rep}
 use Rattle.double.proofs.Laws.Units.{Real, mag-lt, mag-rep, ofUnits-own}
-use Rattle.double.proofs.Laws.Outcome.{refuses-once}
-use Rattle.double.specs.declared.refusal.Refusal.{Refusal}
+use Rattle.refusal.proofs.Laws.Outcome.{refuses-once}
+use Rattle.refusal.specs.declared.Refusal.{Refusal}
 use Rattle.double.specs.declared.answer.Parts.{Parts}
 use Rattle.double.specs.declared.answer.Taken.{Taken}
 use Rattle.double.specs.declared.answer.Taken.the-variants.{Apart, Refused}

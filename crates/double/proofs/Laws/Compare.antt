@@ -1,12 +1,11 @@
 -- Comparisons of finite values, in units: x < y is plus x + minus y < plus y + minus x, and so for equal and at most.
--- In order: fractions of one denominator as numbers of units; less; equal; at most; +infinity against a finite value;
--- one of two finite values is at most the other or above it.
+-- In order: fractions of one denominator as numbers of units; less; equal; at most; +infinity against a finite value.
 -- Not here: NaN. Assumes nothing.
 use mathlib.Core.Path.{_≡_, refl, sym, ap, ap₂, _∙_}
-use mathlib.Core.Logic.{_⊎_, inl, inr}
-use mathlib.Core.Bool.{Bool, true, false, not, _&&_, _||_, Bool·beq, cond}
+use mathlib.Core.Logic.{inl, inr}
+use mathlib.Core.Bool.{Bool, true, false, _&&_, _||_, Bool·beq, cond}
 use Prim.Native.Nat.{ℕ, _+_, _*_, _^_, _≤_, _<_}
-use native.Mathlib.Nat.{le-of-eq, le-of-lt, lt-of-lt-of-le, lt-of-le-of-lt, eq-or-lt-of-le, eq-zero-or-pos, zero-mul, add-mul, mul-comm, mul-assoc}
+use native.Mathlib.Nat.{le-of-eq, le-of-lt, lt-of-lt-of-le, lt-of-le-of-lt, eq-or-lt-of-le, zero-mul, add-mul, mul-comm, mul-assoc}
 use native.Mathlib.Nat.{mul-right-comm, mul-pos, mul-lt-mul-of-pos-right, lt-of-mul-lt-mul-right, eq-of-mul-eq-mul-right}
 use native.Mathlib.Omega.{arith}
 use lib.IntN.{ℤ}
@@ -15,7 +14,6 @@ use lib.Pow.{pow-pos}
 use lib.Ieee.{Float, nan, inf, fin, Format, low, up, down, fits, below, level, lt, le, eq}
 use lib.Ieee.Fits.{down-pos, and-i, and-l, and-r, eq→eqb}
 use lib.Ieee.Scale.{finite}
-use borrow.Author.Tests.{ltb-true, ltb-false, eqb-true, eqb-false, lt-ltb, le-ltb, eq-eqb}
 use Rattle.double.specs.Worth.{mag, plus, minus}
 use Rattle.double.proofs.Laws.Units.{Real, mag-exact}
 
@@ -160,47 +158,3 @@ unfolding lt
 inf-lt nan t = absurd t
 inf-lt (inf s) t = absurd t
 inf-lt (fin s m e) t = refl
-
--- ---- of two finite values, one is at most the other or above it: ±a and ±b
-above-like : (a b : ℕ) → ltb b a ≡ not (ltb a b || (eqb a b && true))
-above-like a b = go (ltb a b) (eqb a b) refl refl
-  where
-    go : (l e : Bool) → ltb a b ≡ l → eqb a b ≡ e → ltb b a ≡ not (l || (e && true))
-    go true e p q = le-ltb b a (le-of-lt (ltb-true a b p))
-    go false true p q = le-ltb b a (le-of-eq (eqb-true a b q))
-    go false false p q = elim (eq-or-lt-of-le (ltb-false a b p)) [ inl z ↦ absurd (eqb-false a b q (sym z)) | inr h ↦ lt-ltb b a h ]
-
-above-unlike : (a b : ℕ) → ltb 0 (b + a) ≡ not (eqb a b && eqb a 0)
-above-unlike a b = go (eqb a b) (eqb a 0) refl refl
-  where
-    go : (e z : Bool) → eqb a b ≡ e → eqb a 0 ≡ z → ltb 0 (b + a) ≡ not (e && z)
-    go true true p q = le-ltb 0 (b + a) (omega (arith, eqb-true a b p, eqb-true a 0 q))
-    go true false p q = lt-ltb 0 (b + a) (some (eqb-false a 0 q) (eq-zero-or-pos a))
-      where
-        some : (a ≡ 0 → ⊥) → (a ≡ 0) ⊎ (0 < a) → 0 < b + a
-        some n (inl e) = absurd (n e)
-        some n (inr h) = omega arith
-    go false z p q = lt-ltb 0 (b + a) (some (eqb-false a b p) (eq-zero-or-pos (b + a)))
-      where
-        some : (a ≡ b → ⊥) → (b + a ≡ 0) ⊎ (0 < b + a) → 0 < b + a
-        some n (inl e) = absurd (n (omega arith))
-        some n (inr h) = h
-
-below-unlike : (a b : ℕ) → false ≡ not (ltb 0 (a + b) || (eqb a b && eqb a 0))
-below-unlike a b = go (ltb 0 (a + b)) refl
-  where
-    go : (l : Bool) → ltb 0 (a + b) ≡ l → false ≡ not (l || (eqb a b && eqb a 0))
-    go true p = refl
-    go false p =
-        let none : a + b ≤ 0 = ltb-false 0 (a + b) p in
-        rw (eq-eqb a b (omega arith), eq-eqb a 0 (omega arith))
-
-pub above-finite : (x y : Float) → T (finite x) → T (finite y) → lt y x ≡ not (le x y)
-unfolding lt le eq
-above-finite (fin false m e) (fin false n d) h k = above-like (m * up e * down d) (n * up d * down e)
-above-finite (fin false m e) (fin true n d) h k = above-unlike (m * up e * down d) (n * up d * down e)
-above-finite (fin true m e) (fin false n d) h k = below-unlike (m * up e * down d) (n * up d * down e)
-above-finite (fin true m e) (fin true n d) h k = turned (m * up e * down d) (n * up d * down e)
-  where
-    turned : (a b : ℕ) → ltb a b ≡ not (ltb b a || (eqb a b && true))
-    turned a b = above-like b a ∙ ap (λ (t : Bool). not (ltb b a || (t && true))) (eqb-same b a a b sym sym)

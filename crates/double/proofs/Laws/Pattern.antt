@@ -8,7 +8,7 @@ use lib.Ieee.{Float, nan, inf, fin, binary64, isNan, ofBits, toBits, nanBits, on
 use lib.Ieee.Compare.{differs-from-itself}
 use lib.Ieee.Bits.{nanBits-is, nanBits-above}
 use borrow.Author.Tests.{lt-ltb, le-ltb}
-use Rattle.double.specs.Outcome.{Fixes}
+use Rattle.refusal.specs.Outcome.{Fixes}
 use Rattle.double.specs.Pattern.{FromPatternSays, ToPatternSays}
 
 is-nan : (x : Float) → isNan x ≡ true → x ≡ nan

@@ -1,15 +1,12 @@
--- Products and the filter on real doubles, worked through: each is a computation. In order: a product whose last difference is -0; 1.1 *
--- 1.1; products at the ends of what `Factors` asks, and of the reach 400; a zero factor; the filter on a triangle, on the same turned
--- round, and on three points of a line. Not here: the laws. Assumes nothing.
+-- Products on real doubles, worked through: each is a computation. In order: a product whose last difference is -0; 1.1 *
+-- 1.1; products at the ends of what `Factors` asks, and of the reach 400; a zero factor. Not here: the laws. Assumes nothing.
 use mathlib.Core.Path.{_≡_, refl}
 use mathlib.Core.Bool.{true, false}
 use lib.IntN.{pos, negsuc}
-use lib.Ieee.{Float, fin, binary64, ofBits, add, sub, neg, mul, lt}
+use lib.Ieee.{Float, fin, binary64, ofBits, add, sub, neg, mul}
 use Rattle.double.proofs.Laws.Zero.{plusZero}
 use Rattle.double.proofs.Laws.Dekker.{lastDifference}
 use Rattle.double.proofs.Laws.ExactProduct.{roundoff}
-use Rattle.double.proofs.Laws.Threshold.{filterConstant, threshold}
-use Rattle.double.proofs.Laws.Orientation.{sideDifference, farther}
 
 -- r and e are the rounded product of x and y and its roundoff
 abbrev Makes : Float → Float → Float → Float → Type 0
@@ -58,27 +55,3 @@ product-high = (refl, refl)
 product-zero : Makes (fin true 0 (pos 0)) one (fin true 0 (pos 0)) plusZero
 unfolding one add sub mul neg
 product-zero = (refl, refl)
-
--- ---- the filter
-two : Float
-two = fin false 1 (pos 1)
-
--- (0, 0), (1, 0), (0, 1): D is 1, E the constant, and D is above E
-filter-triangle : (farther plusZero one plusZero ≡ one) × (threshold one one ≡ filterConstant)
-    × (sideDifference plusZero plusZero one plusZero plusZero one ≡ one)
-    × (lt (threshold one one) (sideDifference plusZero plusZero one plusZero plusZero one) ≡ true)
-unfolding one add sub mul neg lt
-filter-triangle = (refl, refl, refl, refl)
-
--- the same turned round, (0, 0), (0, 1), (1, 0): D is -1, below -E
-filter-turned : (sideDifference plusZero plusZero plusZero one one plusZero ≡ fin true 1 (pos 0))
-    × (lt (sideDifference plusZero plusZero plusZero one one plusZero) (neg (threshold one one)) ≡ true)
-unfolding one add sub mul neg lt
-filter-turned = (refl, refl)
-
--- (0, 0), (1, 1), (2, 2): D is +0, and neither above E nor below -E
-filter-line : (sideDifference plusZero plusZero one one two two ≡ plusZero)
-    × (lt (threshold two two) (sideDifference plusZero plusZero one one two two) ≡ false)
-    × (lt (sideDifference plusZero plusZero one one two two) (neg (threshold two two)) ≡ false)
-unfolding one two add sub mul neg lt
-filter-line = (refl, refl, refl)

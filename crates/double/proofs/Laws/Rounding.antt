@@ -6,7 +6,7 @@ use mathlib.Core.Logic.{_⊎_, inl, inr}
 use mathlib.Core.Bool.{Bool, true, false, not}
 use Prim.Native.Nat.{ℕ, zero, suc, _+_, _-_, _*_, _/_, _%_, _^_, _≤_, _<_, _∣_, zero-le}
 use Prim.Native.Nat.{compare, Ordering, Ordering·lt, Ordering·eq, Ordering·gt}
-use native.Mathlib.Nat.{le-trans, le-of-eq, le-of-lt, lt-of-lt-of-le, lt-of-le-of-lt, eq-or-lt-of-le, zero-lt-suc, zero-mul, suc-mul}
+use native.Mathlib.Nat.{le-trans, le-of-eq, le-of-lt, lt-of-lt-of-le, eq-or-lt-of-le, zero-lt-suc, zero-mul, suc-mul}
 use native.Mathlib.Nat.{mul-comm, mul-assoc, mul-le-mul-right, eq-of-mul-eq-mul-right, pow-succ', div-add-mod', mod-lt, div-mul-cancel}
 use native.Mathlib.Nat.{dvd-zero, dvd-mul-left}
 use native.Mathlib.Omega.{arith}
@@ -14,9 +14,9 @@ use lib.Dec.{T, isLe, isEq, leb, leb→le, nleb→lt, eqb→eq}
 use lib.Pow.{pow-add, pow-pos, pow-mono}
 use lib.Ieee.{size, nearest}
 use lib.Ieee.Digits.{size-lt, size-reaches}
-use lib.Ieee.Nearest.{closest, closest-mono, closest-same}
+use lib.Ieee.Nearest.{closest, closest-same}
 use Rattle.double.proofs.Laws.Digits.{cut, ulp, Rep, gap, pow-dvd, dvd-lower, multiple-above, size-scale}
-use Rattle.double.proofs.Laws.Digits.{cut-mono, cut-enough, cut-full, cut-is}
+use Rattle.double.proofs.Laws.Digits.{cut-enough, cut-full, cut-is}
 use Rattle.double.proofs.Laws.Digits.{rep-of, rep-small, rep-pow, rep-below, rep-above, rep-scale}
 
 unfoldable pub rn : ℕ → ℕ → ℕ
@@ -155,29 +155,6 @@ rn-zero-only p (suc n) P e = absurd (none (rn p (suc n)) (rn-ge p (suc n) 1 P (r
   where
     none : (z : ℕ) → 1 ≤ z → z ≡ 0 → ⊥
     none z h e = omega arith
-
-pub rn-mono : (p : ℕ) {n m : ℕ} → 0 < p → n ≤ m → rn p n ≤ rn p m
-unfolding rn
-rn-mono p {n} {m} P h = elim (eq-or-lt-of-le (cut-mono p h)) [ inl e ↦ same e | inr l ↦ past l ]
-  where
-    room : (p j k : ℕ) → 0 < p → j < k → p + j ≤ p - 1 + k
-    room p j k P h = omega arith
-
-    -- where the step is the same, by `closest`
-    same : cut p n ≡ cut p m → rn p n ≤ rn p m
-    same e =
-        let u = ulp p m in
-        let U = pow-pos (cut p m) in
-        subst (λ (k : ℕ). closest n (2 ^ k) * 2 ^ k ≤ closest m u * u) (sym e)
-        (mul-le-mul-right u (closest-mono n u m u U U (mul-le-mul-right u h)))
-
-    -- where it is not, a power of two lies between
-    past : cut p n < cut p m → rn p n ≤ rn p m
-    past l =
-        let k = p - 1 + cut p m in
-        let below : n ≤ 2 ^ k = le-trans (le-of-lt (cut-enough p n)) (pow-mono (room p (cut p n) (cut p m) P l)) in
-        let above : 2 ^ k ≤ m = cut-full p m P (lt-of-le-of-lt zero-le l) in
-        le-trans (rn-le p n (2 ^ k) P (rep-pow p k P) below) (rn-ge p m (2 ^ k) P (rep-pow p k P) above)
 
 -- ---- errors
 -- half a last place is at most one part in 2 ^ p of every c from 2 ^ (p - 1) last places on

@@ -1,6 +1,6 @@
 -- What callers of the exact product cite. In order: the product by plus and minus parts, and in ℤ; the condition from grains and bounds,
--- and for coordinates; the roundoff in units, and how large it is; a product of three coordinates. Not here: the exact product itself
--- (`ExactProduct`). Assumes nothing.
+-- and for coordinates; the roundoff in units, and how large it is. Not here: the exact product itself (`ExactProduct`).
+-- Assumes nothing.
 use mathlib.Core.Path.{_≡_, refl, sym, ap, _∙_, subst}
 use mathlib.Core.Bool.{Bool, true, false, not, cond}
 use mathlib.Core.Logic.{_⊎_, inl, inr}
@@ -11,12 +11,12 @@ use lib.Pow.{pow-add, pow-pos, pow-mono, pow-lt}
 use lib.IntN.{ℤ, pos, _+ℤ_, _*ℤ_}
 use lib.Ieee.{Float, binary64, mul, unlike}
 use Rattle.whole.proofs.Laws.Parts.{up, dn, add-parts, mul-parts, ≡-parts}
-use Rattle.double.specs.Worth.{signBit, mag, plus, minus, worth, doubleOf}
+use Rattle.double.specs.Worth.{signBit, mag, plus, minus, worth}
 use Rattle.double.proofs.Laws.Digits.{gap}
 use Rattle.double.proofs.Laws.Rounding.{rn, rn-dvd, rn-error-of}
-use Rattle.double.proofs.Laws.Worth.{worth-up, worth-dn, doubleOf-worth-own}
+use Rattle.double.proofs.Laws.Worth.{worth-up, worth-dn}
 use Rattle.double.proofs.Laws.Signed.{part, part-both, part-own}
-use Rattle.double.proofs.Laws.ExactProduct.{Factors, Exact, roundoff, exact-product}
+use Rattle.double.proofs.Laws.ExactProduct.{Factors, Exact, roundoff}
 use Rattle.double.proofs.Laws.Sized.{Sized, Sided, Reach, sized-of, sided-own, split-mag}
 use Rattle.double.proofs.Laws.Sized.{unitsOf, units-whole, units-grain, mul-sided}
 
@@ -50,22 +50,6 @@ pub exact-worth : {x y r e : Float} → Exact x y r e → (worth r +ℤ worth e)
 exact-worth {x} {y} {r} {e} E =
     scaled-product (worth r) (worth e) (worth x) (worth y) (2 ^ 1074)
     (rw (worth-up r, worth-up e, worth-up x, worth-up y, worth-dn r, worth-dn e, worth-dn x, worth-dn y) (exact-parts E))
-
--- so e is the double of what the product has more than r
-scaled-cancel : (r e w : ℤ) (L : ℕ) → 0 < L → (r +ℤ e) *ℤ pos L ≡ (r +ℤ w) *ℤ pos L → e ≡ w
-unfolding up dn
-scaled-cancel r e w L l h =
-    let a : ℤ = r +ℤ e in
-    let b : ℤ = r +ℤ w in
-    let p : (up a + dn b) * L ≡ (up b + dn a) * L =
-    omega (arith, mul-parts a (pos L), mul-parts b (pos L), ≡-parts (a *ℤ pos L) (b *ℤ pos L) .0 h) in
-    let q : up a + dn b ≡ up b + dn a = eq-of-mul-eq-mul-right L l (up a + dn b) (up b + dn a) p in
-    ≡-parts e w .1 (omega (arith, add-parts r e, add-parts r w))
-
-pub exact-roundoff : {x y r e : Float} → Exact x y r e → (w : ℤ) → (worth r +ℤ w) *ℤ pos (2 ^ 1074) ≡ worth x *ℤ worth y → e ≡ doubleOf w
-exact-roundoff {x} {y} {r} {e} E w h =
-    sym (doubleOf-worth-own e (E .e-real) (E .e-zero))
-    ∙ ap doubleOf (scaled-cancel (worth r) (worth e) w (2 ^ 1074) (pow-pos 1074) (exact-worth E ∙ sym h))
 
 -- ---- the condition
 pub factors-of : (g1 b1 g2 b2 : ℕ) {x y : Float} → Sized g1 b1 x → Sized g2 b2 y
@@ -142,18 +126,3 @@ module _ (g1 b1 g2 b2 g b : ℕ) (x y : Float) (rx : Sized g1 b1 x) (ry : Sized 
     where
       less : (e r : ℕ) → e * 2 ^ 53 ≤ r → e ≤ r
       less e r h = omega arith
-
--- ---- a product of three coordinates: the rounded product of two and its roundoff, each times the third
-pub factors-three : (k : ℕ) (x y z : Float) → k ≤ 306 → Reach k x → Reach k y → Reach k z
-    → Factors (mul binary64 x y) z × Factors (roundoff x y) z
-factors-three k x y z h rx ry rz =
-    let l : ℕ = 1022 - k in
-    let m : ℕ = 1074 + k in
-    let g : ℕ = 970 - (k + k) in
-    let b : ℕ = 1074 + (k + k) in
-    let E = exact-product x y (factors-reach k (omega arith) rx ry) in
-    let p : Sized g b (mul binary64 x y) = sized-of (product-sided l m l m g b x y rx ry (omega arith) (omega arith) (omega arith) E) in
-    let e : Sized g b (roundoff x y) = roundoff-sized l m l m g b x y rx ry (omega arith) (omega arith) (omega arith) E in (
-      factors-of g b l m p rz (omega arith) (omega arith) (omega arith) (omega arith),
-      factors-of g b l m e rz (omega arith) (omega arith) (omega arith) (omega arith),
-    )

@@ -1,26 +1,22 @@
 -- What a double is worth, in ℤ, and back. In order: its parts above and below 0 are `plus` and `minus`; the zeros are worth 0, and only
--- they; sums of worths by their parts; comparisons; the double of its own worth, +0 for both zeros; the worth of the double made of w,
--- for a w of `prec` digits below overflow. Not here: the same over any format and in ℕ (`Units`). Assumes nothing.
-use mathlib.Core.Path.{_≡_, refl, sym, ap, ap₂, _∙_, subst}
+-- they; sums of worths by their parts; the double of its own worth, +0 for both zeros; the worth of the double made of w, for a w of
+-- `prec` digits below overflow. Not here: the same over any format and in ℕ (`Units`). Assumes nothing.
+use mathlib.Core.Path.{_≡_, refl, sym, ap, ap₂, _∙_}
 use mathlib.Core.Bool.{Bool, true, false, cond}
 use mathlib.Core.Logic.{_↔_, inl, inr}
 use Prim.Native.Nat.{ℕ, zero, suc, _+_, _^_, _<_}
 use native.Mathlib.Nat.{eq-zero-or-pos, lt-irrefl, lt-of-le-of-lt, le-of-eq}
 use native.Mathlib.Omega.{arith}
 use lib.IntN.{ℤ, pos, negsuc, negℤ, natAbs, _+ℤ_}
-use lib.Dec.{T, ltb, leb, eqb, ltb→lt, lt→ltb, leb→le, le→leb, eqb→eq}
-use lib.Ieee.{Float, fin, Format, binary64, prec, low, fits, round, size, units, odd, lt, le, eq}
+use lib.Ieee.{Float, fin, Format, binary64, prec, low, round, size, units, odd}
 use lib.Ieee.Exact.{HasValue}
-use lib.Ieee.Fits.{eq→eqb}
 use lib.Ieee.Scale.{overflow}
-use Rattle.whole.specs.Order.{_≤ᶻ_, _<ᶻ_}
-use Rattle.whole.proofs.Laws.Parts.{up, dn, add-parts, ≤-parts, <-parts, ≡-parts}
+use Rattle.whole.proofs.Laws.Parts.{up, dn, add-parts, ≡-parts}
 use Rattle.double.specs.Worth.{signBit, mag, plus, minus, worth, ofUnits, doubleOf}
 use Rattle.double.proofs.Laws.Digits.{Rep}
 use Rattle.double.proofs.Laws.Rounding.{rn, rn-kept}
-use Rattle.double.proofs.Laws.Compare.{lt-is, le-is, eq-is}
-use Rattle.double.proofs.Laws.Units.{Real, value-mag, value-signBit, value-finite}
-use Rattle.double.proofs.Laws.Units.{ofUnits-fits, ofUnits-value, ofUnits-own}
+use Rattle.double.proofs.Laws.Units.{Real, value-mag, value-signBit}
+use Rattle.double.proofs.Laws.Units.{ofUnits-value, ofUnits-own}
 
 -- a sign and a magnitude
 abbrev signed : Bool → ℕ → ℤ
@@ -83,37 +79,6 @@ worth-sums a b x y e =
     sums (worth x) (worth y) (worth a) (worth b)
     (rw (worth-up x, worth-up y, worth-dn a, worth-dn b, worth-up a, worth-up b, worth-dn x, worth-dn y) e)
 
--- ---- doubles are compared as their worths are
--- a test of the parts is one of the whole numbers
-module _ (b : Bool) (z w : ℤ) where
-  test-lt : b ≡ ltb (up z + dn w) (up w + dn z) → T b ↔ (z <ᶻ w)
-  test-lt e = (
-    λ t. <-parts z w .1 (ltb→lt (up z + dn w) (up w + dn z) (subst T e t)),
-    λ h. subst T (sym e) (lt→ltb (up z + dn w) (up w + dn z) (<-parts z w .0 h)),
-  )
-
-  test-le : b ≡ leb (up z + dn w) (up w + dn z) → T b ↔ (z ≤ᶻ w)
-  test-le e = (
-    λ t. ≤-parts z w .1 (leb→le (up z + dn w) (up w + dn z) (subst T e t)),
-    λ h. subst T (sym e) (le→leb (up z + dn w) (up w + dn z) (≤-parts z w .0 h)),
-  )
-
-  test-eq : b ≡ eqb (up z + dn w) (up w + dn z) → T b ↔ (z ≡ w)
-  test-eq e = (
-    λ t. ≡-parts z w .1 (eqb→eq (up z + dn w) (up w + dn z) (subst T e t)),
-    λ h. subst T (sym e) (eq→eqb (≡-parts z w .0 h)),
-  )
-
-module _ (x y : Float) (rx : Real binary64 x) (ry : Real binary64 y) where
-  pub worth-lt : T (lt x y) ↔ (worth x <ᶻ worth y)
-  worth-lt = test-lt (lt x y) (worth x) (worth y) (rw (worth-up x, worth-dn y, worth-up y, worth-dn x) (lt-is binary64 x y rx ry))
-
-  pub worth-le : T (le x y) ↔ (worth x ≤ᶻ worth y)
-  worth-le = test-le (le x y) (worth x) (worth y) (rw (worth-up x, worth-dn y, worth-up y, worth-dn x) (le-is binary64 x y rx ry))
-
-  pub worth-eq : T (eq x y) ↔ (worth x ≡ worth y)
-  worth-eq = test-eq (eq x y) (worth x) (worth y) (rw (worth-up x, worth-dn y, worth-up y, worth-dn x) (eq-is binary64 x y rx ry))
-
 -- ---- the double of a given worth, over any format
 abbrev from : Format → ℤ → Float
 from f (pos n) = ofUnits f false n
@@ -123,13 +88,6 @@ doubleOf-is : (w : ℤ) → doubleOf w ≡ from binary64 w
 unfolding doubleOf
 doubleOf-is (pos n) = refl
 doubleOf-is (negsuc n) = refl
-
-from-fits : (f : Format) (w : ℤ) → T (fits f (from f w))
-from-fits f (pos n) = ofUnits-fits f false n
-from-fits f (negsuc n) = ofUnits-fits f true (suc n)
-
-pub doubleOf-fits : (w : ℤ) → T (fits binary64 (doubleOf w))
-doubleOf-fits w = subst (λ (x : Float). T (fits binary64 x)) (sym (doubleOf-is w)) (from-fits binary64 w)
 
 -- ---- of its own worth: itself, but for -0
 from-signed : (f : Format) (s : Bool) (n : ℕ) → 0 < n → from f (signed s n) ≡ ofUnits f s n
@@ -158,23 +116,18 @@ doubleOf-worth-own x r z = elim (eq-zero-or-pos (mag binary64 x)) [
 
 -- ---- the worth of the double made of w
 made : (f : Format) (s : Bool) (n : ℕ) → rn (prec f) n ≡ n → n < overflow f
-    → Real f (ofUnits f s n) × (signed (signBit (ofUnits f s n)) (mag f (ofUnits f s n)) ≡ signed s n)
+    → signed (signBit (ofUnits f s n)) (mag f (ofUnits f s n)) ≡ signed s n
 made f s n e h =
     let x = ofUnits f s n in
     let l = 2 ^ low f in
-    let v : HasValue x s (rn (prec f) n) l = ofUnits-value f s n (lt-of-le-of-lt (le-of-eq e) h) in (
-      record { fin = value-finite x s (rn (prec f) n) l v; fit = ofUnits-fits f s n },
-      ap₂ signed (value-signBit x s (rn (prec f) n) l v) (value-mag f x s (rn (prec f) n) v ∙ e),
-    )
+    let v : HasValue x s (rn (prec f) n) l = ofUnits-value f s n (lt-of-le-of-lt (le-of-eq e) h) in
+    ap₂ signed (value-signBit x s (rn (prec f) n) l v) (value-mag f x s (rn (prec f) n) v ∙ e)
 
 from-made : (f : Format) (w : ℤ) → Rep (prec f) (natAbs w) → natAbs w < overflow f
-    → Real f (from f w) × (signed (signBit (from f w)) (mag f (from f w)) ≡ w)
+    → signed (signBit (from f w)) (mag f (from f w)) ≡ w
 from-made f (pos n) r h = made f false n (rn-kept (prec f) r) h
 from-made f (negsuc n) r h = made f true (suc n) (rn-kept (prec f) r) h
 
-pub doubleOf-real : (w : ℤ) → Rep (prec binary64) (natAbs w) → natAbs w < overflow binary64 → Real binary64 (doubleOf w)
-doubleOf-real w r h = subst (λ (x : Float). Real binary64 x) (sym (doubleOf-is w)) (from-made binary64 w r h .0)
-
 pub worth-doubleOf : (w : ℤ) → Rep (prec binary64) (natAbs w) → natAbs w < overflow binary64 → worth (doubleOf w) ≡ w
 unfolding worth
-worth-doubleOf w r h = ap worth (doubleOf-is w) ∙ from-made binary64 w r h .1
+worth-doubleOf w r h = ap worth (doubleOf-is w) ∙ from-made binary64 w r h

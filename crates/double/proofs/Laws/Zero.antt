@@ -1,7 +1,6 @@
--- Which zero a sum of 0 is, and when a rounded sum is 0. In order: +0; values of unlike sign and equal magnitude add to +0, so x - x is
--- +0; a rounded sum or difference is 0 only where the exact one is; a zero that values of unlike sign add to is +0; x + 0 is x, and +0
--- where x is a zero; a value against 0. Not here: the zero of a product. Assumes nothing.
-use mathlib.Core.Path.{_≡_, refl, sym, ap, ap₂, _∙_}
+-- Which zero a sum of 0 is. In order: +0; values of unlike sign and equal magnitude add to +0, so x - x is +0; x + 0 is x, and +0 where x
+-- is a zero; a value against 0. Not here: the zero of a product. Assumes nothing.
+use mathlib.Core.Path.{_≡_, refl, ap, ap₂, _∙_}
 use mathlib.Core.Bool.{Bool, true, false, not, cond}
 use Prim.Native.Nat.{ℕ, _+_, _-_, _^_, _<_, zero-le}
 use native.Mathlib.Nat.{le-refl, add-zero, zero-add, sub-zero}
@@ -9,15 +8,12 @@ use native.Mathlib.Omega.{arith}
 use lib.Arith.{le→nltb}
 use lib.IntN.{pos}
 use lib.Dec.{ltb, lt→ltb}
-use lib.Ieee.{Float, fin, Format, binary32, binary64, prec, low, fits, round, size, units, odd, sum, add, sub, neg, lt}
+use lib.Ieee.{Float, fin, Format, binary32, binary64, low, fits, round, size, units, odd, sum, add, sub, neg, lt}
 use lib.Ieee.Bits.{is-false, is-true}
-use lib.Ieee.Scale.{overflow}
 use Rattle.double.specs.Worth.{signBit, mag, plus, minus, ofUnits}
-use Rattle.double.proofs.Laws.Digits.{gap}
-use Rattle.double.proofs.Laws.Rounding.{rn, rn-zero-only}
-use Rattle.double.proofs.Laws.Units.{Real, Parts, prec-pos, mag-zero-parts, ofUnits-own}
+use Rattle.double.proofs.Laws.Units.{Real, mag-zero-parts, ofUnits-own}
 use Rattle.double.proofs.Laws.Compare.{lt-is}
-use Rattle.double.proofs.Laws.Sum.{add-is, add-law, sub-law, neg-real, neg-signBit, neg-mag}
+use Rattle.double.proofs.Laws.Sum.{add-is, neg-real, neg-signBit, neg-mag}
 
 -- +0, written as the formats write it
 abbrev pub plusZero : Float
@@ -62,36 +58,6 @@ add-cancel f x y rx ry s m =
 pub sub-self : (f : Format) (x : Float) → Real f x → sub f x x ≡ plusZero
 unfolding sub
 sub-self f x r = add-cancel f x (neg x) r (neg-real f x r) (neg-signBit x (r .fin)) (neg-mag f x)
-
--- ---- a rounded sum is 0 only where the exact sum is
-parts-level : (f : Format) (z : Float) (P N : ℕ) → Parts f z (rn (prec f) (P - N)) (rn (prec f) (N - P)) → mag f z ≡ 0 → P ≡ N
-parts-level f z P N r e =
-    let zeros = mag-zero-parts f z .0 e in
-    level P N (rn-zero-only (prec f) (P - N) (prec-pos f) (sym (r .plus-is) ∙ zeros .0))
-    (rn-zero-only (prec f) (N - P) (prec-pos f) (sym (r .minus-is) ∙ zeros .1))
-  where
-    level : (P N : ℕ) → P - N ≡ 0 → N - P ≡ 0 → P ≡ N
-    level P N a b = omega arith
-
-module _ (f : Format) (x y : Float) (rx : Real f x) (ry : Real f y) where
-  pub add-zero-exact : (let P = plus f x + plus f y in let N = minus f x + minus f y in
-      rn (prec f) (gap P N) < overflow f → mag f (add f x y) ≡ 0 → P ≡ N)
-  add-zero-exact h = parts-level f (add f x y) (plus f x + plus f y) (minus f x + minus f y) (add-law f x y rx ry h)
-
-  pub sub-zero-exact : (let P = plus f x + minus f y in let N = minus f x + plus f y in
-      rn (prec f) (gap P N) < overflow f → mag f (sub f x y) ≡ 0 → P ≡ N)
-  sub-zero-exact h = parts-level f (sub f x y) (plus f x + minus f y) (minus f x + plus f y) (sub-law f x y rx ry h)
-
-  -- and of unlike signs that zero is +0
-  pub add-unlike-zero : signBit y ≡ not (signBit x)
-      → rn (prec f) (gap (plus f x + plus f y) (minus f x + minus f y)) < overflow f → mag f (add f x y) ≡ 0 → add f x y ≡ plusZero
-  add-unlike-zero s h e = add-cancel f x y rx ry s (same (signBit x) (signBit y) (mag f x) (mag f y) (add-zero-exact h e))
-    where
-      same : (s t : Bool) (n m : ℕ) → cond s 0 n + cond t 0 m ≡ cond s n 0 + cond t m 0 → m ≡ n
-      same true true n m e = omega arith
-      same true false n m e = omega arith
-      same false true n m e = omega arith
-      same false false n m e = omega arith
 
 -- ---- x + 0
 sum-zero : (f : Format) (s : Bool) (n : ℕ) → 0 < n → sum f s n false 0 (2 ^ low f) ≡ ofUnits f s n

@@ -4,29 +4,31 @@
 use mathlib.Core.Path.{_≡_, refl, sym, ap, ap₂, _∙_, subst}
 use mathlib.Core.Bool.{Bool, true, false, cond}
 use mathlib.Core.List.{List, _∷_}
-use mathlib.Core.Logic.{_↔_, _⊎_, inl, inr}
-use Prim.Native.Nat.{ℕ, zero, suc, _+_, _*_, _/_, _%_, _≤_, _<_, zero-le}
-use native.Mathlib.Nat.{zero-add, le-antisymm, eq-zero-or-pos, eq-or-lt-of-le}
+use mathlib.Core.Logic.{_↔_, inl, inr}
+use Prim.Native.Nat.{ℕ, _+_, _*_, _/_, _%_, _≤_, _<_}
+use native.Mathlib.Nat.{zero-add, le-antisymm, eq-zero-or-pos}
 use native.Mathlib.Omega.{arith}
-use lib.Dec.{eqb, ltb}
+use lib.Dec.{eqb, leb}
 use lib.ListN.{length}
 use lib.Ieee.{Float, nan}
-use borrow.Author.Tests.{eqb-true, eqb-false, eq-eqb, ne-eqb, ltb-true, ltb-false, lt-ltb, le-ltb}
+use borrow.Author.Tests.{eqb-true, eqb-false, eq-eqb, leb-true, leb-false}
 use Rattle.whole.specs.Sign.{sgn}
-use Rattle.double.specs.Outcome.{Outcome, answers, refuses, tooMany, notAccepted, tooFewCorners, oddLength}
-use Rattle.double.specs.Search.{AllPass, IsFirst}
-use Rattle.double.specs.declared.refusal.Refusal.{Refusal}
-use Rattle.double.proofs.Laws.Outcome.{refuses-once, never, no-refusal}
-use Rattle.double.proofs.Laws.Search.{passing-answered, passing-first, passing-refused}
+use Rattle.whole.proofs.Laws.Order.{lt-or-le}
+use Rattle.refusal.specs.Outcome.{answers, refuses, tooMany, notAccepted, tooFewCorners, oddLength}
+use Rattle.refusal.specs.Search.{AllPass, IsFirst}
+use Rattle.refusal.specs.declared.Refusal.{Refusal}
+use Rattle.refusal.proofs.Laws.Outcome.{refuses-once, never, no-refusal}
+use Rattle.refusal.proofs.Laws.Judged.{require-refused}
+use Rattle.refusal.proofs.Laws.Search.{passing-answered, passing-first, passing-refused}
 use Rattle.point.specs.declared.Point.{Point}
-use Rattle.point.specs.Accepted.{reach, acceptedOf, acceptingFrom}
+use Rattle.point.specs.Accepted.{reach, acceptedOf}
 use Rattle.sum.specs.Total.{signNumber}
-use Rattle.sum.proofs.Laws.Settled.{lt-or-le}
-use Rattle.geometry.specs.Determinant.{determinant}
+use Rattle.geometry.specs.Spot.{spotOf, determinant}
 use Rattle.geometry.specs.Side.{Turned, turnOf, turnSaid, said, sixOf, sideOf, SideSays, mostSteps, Accepted, OfDoubles}
-use Rattle.geometry.specs.Zone.{fewest, most, cornersOf, edgesOf, edgeAt, onEdge, Lies, outside, border, inside}
-use Rattle.geometry.specs.Zone.{parity, placeOf, Zoned, placeSaid, zoneSaid, zoneOf, ZoneSays}
-use Rattle.geometry.specs.Reasons.{SideRefusedAs, ZoneRefusedAs, odd, few, many, unaccepted, FirstOn, OffBorder, tallyOf}
+use Rattle.ground.specs.Edge.{edgesOf}
+use Rattle.ground.specs.Zone.{Tally, Lies, placeNumber, placeOf, outside, border, inside, offBorder}
+use Rattle.geometry.specs.Zone.{fewest, most, cornersOf, placeIn, Zoned, placeSaid, zoneSaid, zoneOf, ZoneSays}
+use Rattle.geometry.specs.Reasons.{SideRefusedAs, ZoneRefusedAs, odd, few, many, unaccepted, FirstOn, OffBorder, tallyIn}
 use Rattle.geometry.specs.declared.answer.Turn.{Turn}
 use Rattle.geometry.specs.declared.answer.Side.{Side}
 use Rattle.geometry.specs.declared.answer.Side.the-variants.{Of, Refused}
@@ -36,7 +38,8 @@ use Rattle.geometry.specs.declared.answer.Zone.{Zone}
 use Rattle.geometry.specs.declared.answer.Zone.the-variants.{At, Refused as ZoneRefused}
 use Rattle.geometry.proofs.Laws.Product.{Within, accepted-within}
 use Rattle.geometry.proofs.Laws.Side.{turn-sign, turn-steps, turn-steps-early, side-turn}
-use Rattle.geometry.proofs.Laws.Zone.{offBorder, walkFrom, walk-start, walk-here, walk-later, walk-end}
+use Rattle.geometry.proofs.Laws.Zone.{zone-odd, zone-small, zone-large, judged}
+use Rattle.geometry.proofs.Laws.Located.{located}
 use Rattle.geometry.proofs.Laws.Answered.{zone-answered, zoned-answers}
 
 -- ---- which sides are refused: 3, at the first of the six coordinates that is not accepted
@@ -104,48 +107,47 @@ module _ (p q r : Point) (t : Turn) (P : OfDoubles p) (Q : OfDoubles q) (R : OfD
 -- ---- which zones are refused: 5, 4, 1, then 3 at the first coordinate that is not accepted, the point's first
 module _ (xs : List Float) (p : Point) where
   abbrev placed : Lies
-  placed = placeOf (edgesOf (cornersOf xs)) p
+  placed = placeIn xs p
+
+  told-as : (m j n k : ℕ) → n ≡ m → k ≡ j → ZoneRefusedAs xs p m j → ZoneRefusedAs xs p n k
+  told-as m j n k number place w =
+      subst (λ (i : ℕ). ZoneRefusedAs xs p i k) (sym number) (subst (λ (i : ℕ). ZoneRefusedAs xs p m i) (sym place) w)
 
   refused-found : (n k : ℕ) → zoneOf xs p ≡ refuses n k → ZoneRefusedAs xs p n k
   unfolding zoneOf
-  refused-found n k e = go (eqb (length xs % 2) 1) (ltb (length xs / 2) fewest) (ltb most (length xs / 2)) refl refl refl e
+  refused-found n k e = elim (require-refused (eqb (length xs % 2) 0) oddLength 0 _ e) [
+    | inl (fails, number, place) ↦ told-as oddLength 0 n k number place (odd (uneven (eqb-false (length xs % 2) 0 fails)))
+    | inr (holds, e) ↦
+        let even = eqb-true (length xs % 2) 0 holds in
+        elim (require-refused (leb fewest (length xs / 2)) tooFewCorners 0 _ e) [
+          | inl (fails, number, place) ↦ told-as tooFewCorners 0 n k number place (few even (leb-false fewest (length xs / 2) fails))
+          | inr (holds, e) ↦
+              let least = leb-true fewest (length xs / 2) holds in
+              elim (require-refused (leb (length xs / 2) most) tooMany 0 _ e) [
+                | inl (fails, number, place) ↦ told-as tooMany 0 n k number place (many even (leb-false (length xs / 2) most fails))
+                | inr (holds, e) ↦
+                    let (number, (j, place, first)) = passing-refused acceptedOf notAccepted nan placed 0 (p .x ∷ p .y ∷ xs) n k e in
+                    told-as notAccepted j n k number (place ∙ zero-add j) (unaccepted even least (leb-true (length xs / 2) most holds) j first)
+              ]
+        ]
+  ]
     where
-      told : (m j : ℕ) → _≡_ {A = Outcome Lies} (refuses m j) (refuses n k) → ZoneRefusedAs xs p m j → ZoneRefusedAs xs p n k
-      told m j e w =
-          let number : m ≡ n = cc in
-          let place : j ≡ k = cc in
-          subst (λ (i : ℕ). ZoneRefusedAs xs p i k) number (subst (λ (i : ℕ). ZoneRefusedAs xs p m i) place w)
+      uneven : (length xs % 2 ≡ 0 → ⊥) → length xs % 2 ≡ 1
+      uneven h = elim (eq-zero-or-pos (length xs % 2)) [ inl z ↦ absurd (h z) | inr l ↦ omega arith ]
 
-      even : eqb (length xs % 2) 1 ≡ false → length xs % 2 ≡ 0
-      even h = elim (eq-zero-or-pos (length xs % 2)) [ inl z ↦ z | inr l ↦ absurd (eqb-false (length xs % 2) 1 h (omega arith)) ]
-
-      go : (a b c : Bool) → eqb (length xs % 2) 1 ≡ a → ltb (length xs / 2) fewest ≡ b → ltb most (length xs / 2) ≡ c
-          → cond a (refuses oddLength 0) (cond b (refuses tooFewCorners 0) (cond c (refuses tooMany 0) (acceptingFrom 0 (p .x ∷ p .y ∷ xs) placed)))
-          ≡ refuses n k → ZoneRefusedAs xs p n k
-      go true b c ha hb hc e = told oddLength 0 e (odd (eqb-true (length xs % 2) 1 ha))
-      go false true c ha hb hc e = told tooFewCorners 0 e (few (even ha) (ltb-true (length xs / 2) fewest hb))
-      go false false true ha hb hc e = told tooMany 0 e (many (even ha) (ltb-true most (length xs / 2) hc))
-      go false false false ha hb hc e =
-          let (number, (j, place, first)) = passing-refused acceptedOf notAccepted nan placed 0 (p .x ∷ p .y ∷ xs) n k e in
-          subst (λ (i : ℕ). ZoneRefusedAs xs p i k) (sym number)
-          (unaccepted (even ha) (ltb-false (length xs / 2) fewest hb) (ltb-false most (length xs / 2) hc) k
-          (subst (IsFirst acceptedOf nan (p .x ∷ p .y ∷ xs)) (sym (place ∙ zero-add j)) first))
-
-  even : length xs % 2 ≡ 0 → length xs % 2 ≡ 1 → ⊥
-  even h e = omega arith
+  even-not : length xs % 2 ≡ 0 → length xs % 2 ≡ 1 → ⊥
+  even-not h e = omega arith
 
   found-refused : (n k : ℕ) → ZoneRefusedAs xs p n k → zoneOf xs p ≡ refuses n k
-  unfolding zoneOf
-  found-refused n k (odd h) = rw (eq-eqb (length xs % 2) 1 h)
-  found-refused n k (few h l) = rw (ne-eqb (length xs % 2) 1 (even h), lt-ltb (length xs / 2) fewest l)
-  found-refused n k (many h l) =
-      rw (ne-eqb (length xs % 2) 1 (even h), le-ltb (length xs / 2) fewest (some l), lt-ltb most (length xs / 2) l)
+  found-refused n k (odd h) = sym (zone-odd xs p h)
+  found-refused n k (few h l) = sym (zone-small xs p (even-not h) l)
+  found-refused n k (many h l) = sym (zone-large xs p (even-not h) (some l) l)
     where
       some : most < length xs / 2 → fewest ≤ length xs / 2
       some l = omega arith
   found-refused n k (unaccepted h least greatest place first) =
-      rw (ne-eqb (length xs % 2) 1 (even h), le-ltb (length xs / 2) fewest least, le-ltb most (length xs / 2) greatest)
-      (passing-first acceptedOf notAccepted nan placed 0 (p .x ∷ p .y ∷ xs) place first ∙ ap (λ (i : ℕ). refuses notAccepted i) (zero-add place))
+      sym (judged xs p (even-not h) least greatest)
+      ∙ passing-first acceptedOf notAccepted nan placed 0 (p .x ∷ p .y ∷ xs) place first ∙ ap (λ (i : ℕ). refuses notAccepted i) (zero-add place)
 
 pub zone-refused : (xs : List Float) (p : Point) (z : Zone) → ZoneSays xs p z
     → (f : Refusal) → (z ≡ ZoneRefused f) ↔ ZoneRefusedAs xs p (f .number) (f .place)
@@ -165,71 +167,39 @@ unfolding zoneSaid
 zone-answers xs n p (At place) zoned a h = (place, refl)
 zone-answers xs n p (ZoneRefused f) zoned a h = no-refusal (h ∙ zoned-answers xs n p zoned a)
 
--- ---- the border: the walk from edge j on, of m edges
-module _ (xs : List Float) (p : Point) (size : length xs ≡ 2 * (length xs / 2)) where
-  abbrev n : ℕ
-  n = length xs / 2
-
-  -- the edges from j on do not have the point, or k is the first that does
-  abbrev Passes : ℕ → Type 0
-  Passes j = (walkFrom xs p j ≡ offBorder (edgesOf (cornersOf xs)) p) × ((i : ℕ) → j ≤ i → i < n → onEdge (edgeAt xs i) p ≡ false)
-
-  abbrev Meets : ℕ → ℕ → Type 0
-  Meets j k =
-      (walkFrom xs p j ≡ border k) × (k < n) × (onEdge (edgeAt xs k) p ≡ true) × ((i : ℕ) → j ≤ i → i < k → onEdge (edgeAt xs i) p ≡ false)
-
-  walked : (m j : ℕ) → j + m ≡ n → Passes j ⊎ ((k : ℕ) × Meets j k)
-  walked zero j e = inl (walk-end xs n p size j (omega arith), λ i h l. let z : ⊥ = omega arith in absurd z)
-  walked (suc m) j e = go (onEdge (edgeAt xs j) p) refl (walked m (j + 1) (omega arith))
-    where
-      inside : j < n
-      inside = omega arith
-
-      also : (b : Bool) → onEdge (edgeAt xs j) p ≡ b → (k : ℕ) → ((i : ℕ) → j + 1 ≤ i → i < k → onEdge (edgeAt xs i) p ≡ b)
-          → (i : ℕ) → j ≤ i → i < k → onEdge (edgeAt xs i) p ≡ b
-      also b t k f i h l = elim (eq-or-lt-of-le h) [
-        | inl e ↦ subst (λ (i : ℕ). onEdge (edgeAt xs i) p ≡ b) e t
-        | inr g ↦ f i (omega arith) l
-      ]
-
-      go : (b : Bool) → onEdge (edgeAt xs j) p ≡ b → Passes (j + 1) ⊎ ((k : ℕ) × Meets (j + 1) k) → Passes j ⊎ ((k : ℕ) × Meets j k)
-      go true t w = inr (j, (walk-here xs n p size j inside t, inside, t, λ i h l. let z : ⊥ = omega arith in absurd z))
-      go false t (inl (off, none)) = inl (walk-later xs n p size j inside t ∙ off, also false t n none)
-      go false t (inr (k, (on, l, h, before))) = inr (k, (walk-later xs n p size j inside t ∙ on, l, h, also false t k before))
-
-  -- off every edge, or on a first one
-  located : (OffBorder xs p × (placeOf (edgesOf (cornersOf xs)) p ≡ parity (tallyOf xs p)))
-      ⊎ ((k : ℕ) × FirstOn xs p k × (placeOf (edgesOf (cornersOf xs)) p ≡ border k))
-  located = elim (walked n 0 (zero-add n)) [
-    | inl (off, none) ↦ inl (λ k l. none k zero-le l, sym (walk-start xs p) ∙ off)
-    | inr (k, (on, l, h, before)) ↦
-        inr (k, record { inside = l; on = h; before = λ i g. before i zero-le g }, sym (walk-start xs p) ∙ on)
-  ]
-
 -- a truth is not both
 not-both : {A : Type 0} {b : Bool} → b ≡ true → b ≡ false → A
 not-both e f = never (cc)
 
-parity-inside : (n : ℕ) → (parity n ≡ inside) ↔ (n % 2 ≡ 1)
-parity-inside n = (λ e. go (eqb (n % 2) 1) refl e, λ h. rw (eq-eqb (n % 2) 1 h))
+-- off the border: inside if the count is odd, and never on the border
+off-inside : (t : Tally) → (offBorder t ≡ inside) ↔ ((t .ups + t .downs) % 2 ≡ 1)
+unfolding offBorder
+off-inside t = (λ e. go (eqb ((t .ups + t .downs) % 2) 1) refl e, λ h. rw (eq-eqb ((t .ups + t .downs) % 2) 1 h))
   where
-    go : (b : Bool) → eqb (n % 2) 1 ≡ b → cond b inside outside ≡ inside → n % 2 ≡ 1
-    go true t e = eqb-true (n % 2) 1 t
-    go false t e = never (cc)
+    go : (b : Bool) → eqb ((t .ups + t .downs) % 2) 1 ≡ b → cond b inside outside ≡ inside → (t .ups + t .downs) % 2 ≡ 1
+    go true h e = eqb-true ((t .ups + t .downs) % 2) 1 h
+    go false h e = never (cc)
 
-parity-outside : (n : ℕ) → (parity n ≡ outside) ↔ (n % 2 ≡ 0)
-parity-outside n = (λ e. go (eqb (n % 2) 1) refl e, λ h. rw (ne-eqb (n % 2) 1 (λ e. let z : ⊥ = omega arith in z)))
-  where
-    go : (b : Bool) → eqb (n % 2) 1 ≡ b → cond b inside outside ≡ outside → n % 2 ≡ 0
-    go true t e = never (cc)
-    go false t e = elim (eq-zero-or-pos (n % 2)) [ inl z ↦ z | inr l ↦ absurd (eqb-false (n % 2) 1 t (omega arith)) ]
-
-parity-border : {A : Type 0} (n k : ℕ) → parity n ≡ border k → A
-parity-border n k e = go (eqb (n % 2) 1) e
+off-border : {A : Type 0} (t : Tally) (k : ℕ) → offBorder t ≡ border k → A
+unfolding offBorder
+off-border t k e = go (eqb ((t .ups + t .downs) % 2) 1) e
   where
     go : {A : Type 0} (b : Bool) → cond b inside outside ≡ border k → A
     go true e = never (cc)
     go false e = never (cc)
+
+-- the numbers of the places
+pub place-inside : placeNumber (placeSaid Inside) ≡ 2
+unfolding placeSaid
+place-inside = refl
+
+pub place-outside : placeNumber (placeSaid Outside) ≡ 0
+unfolding placeSaid
+place-outside = refl
+
+pub place-border : (k : ℕ) → placeNumber (placeSaid (Border k)) ≡ 1
+unfolding placeSaid
+place-border k = refl
 
 -- ---- an answered zone
 module _ (xs : List Float) (p : Point) (place : Place) (h : ZoneSays xs p (At place)) where
@@ -237,8 +207,13 @@ module _ (xs : List Float) (p : Point) (place : Place) (h : ZoneSays xs p (At pl
   unfolding zoneSaid
   told = sym h
 
-  at : placeOf (edgesOf (cornersOf xs)) p ≡ placeSaid place
+  at : placeIn xs p ≡ placeSaid place
   at = zone-answered xs p (placeSaid place) told .place
+
+  -- the place is the rule's, of what corners and point are worth
+  pub zone-lies : placeOf (edgesOf (cornersOf xs)) (spotOf p) ≡ placeSaid place
+  unfolding placeIn
+  zone-lies = at
 
   halves : length xs ≡ 2 * (length xs / 2)
   halves = omega (arith, zone-answered xs p (placeSaid place) told .even)
@@ -248,13 +223,13 @@ module _ (xs : List Float) (p : Point) (place : Place) (h : ZoneSays xs p (At pl
   unfolding placeSaid
   zone-border k = (λ e. first (at ∙ ap placeSaid e), λ f. only place (sym at ∙ last f))
     where
-      first : placeOf (edgesOf (cornersOf xs)) p ≡ border k → FirstOn xs p k
+      first : placeIn xs p ≡ border k → FirstOn xs p k
       first e = elim (located xs p halves) [
-        | inl (off, tally) ↦ parity-border (tallyOf xs p) k (sym tally ∙ e)
+        | inl (off, tally) ↦ off-border (tallyIn xs p) k (sym tally ∙ e)
         | inr (j, f, g) ↦ let both : border j ≡ border k = sym g ∙ e in let same : j ≡ k = cc in subst (FirstOn xs p) same f
       ]
 
-      last : FirstOn xs p k → placeOf (edgesOf (cornersOf xs)) p ≡ border k
+      last : FirstOn xs p k → placeIn xs p ≡ border k
       last f = elim (located xs p halves) [
         | inl (off, tally) ↦ not-both (f .on) (off k (f .inside))
         | inr (j, g, e) ↦ e ∙ ap border (le-antisymm (no-later k j g f) (no-later j k f g))
@@ -270,19 +245,19 @@ module _ (xs : List Float) (p : Point) (place : Place) (h : ZoneSays xs p (At pl
       only Inside e = never (cc)
 
   -- inside: no edge has it, and the count is odd
-  pub zone-inside : (place ≡ Inside) ↔ (OffBorder xs p × (tallyOf xs p % 2 ≡ 1))
+  pub zone-inside : (place ≡ Inside) ↔ (OffBorder xs p × ((tallyIn xs p .ups + tallyIn xs p .downs) % 2 ≡ 1))
   unfolding placeSaid
   zone-inside = (λ e. first (at ∙ ap placeSaid e), λ (off, h). only place (sym at ∙ last off h))
     where
-      first : placeOf (edgesOf (cornersOf xs)) p ≡ inside → OffBorder xs p × (tallyOf xs p % 2 ≡ 1)
+      first : placeIn xs p ≡ inside → OffBorder xs p × ((tallyIn xs p .ups + tallyIn xs p .downs) % 2 ≡ 1)
       first e = elim (located xs p halves) [
-        | inl (off, tally) ↦ (off, parity-inside (tallyOf xs p) .0 (sym tally ∙ e))
+        | inl (off, tally) ↦ (off, off-inside (tallyIn xs p) .0 (sym tally ∙ e))
         | inr (j, f, g) ↦ let same : border j ≡ inside = sym g ∙ e in never (cc)
       ]
 
-      last : OffBorder xs p → tallyOf xs p % 2 ≡ 1 → placeOf (edgesOf (cornersOf xs)) p ≡ inside
+      last : OffBorder xs p → (tallyIn xs p .ups + tallyIn xs p .downs) % 2 ≡ 1 → placeIn xs p ≡ inside
       last off h = elim (located xs p halves) [
-        | inl (_, tally) ↦ tally ∙ parity-inside (tallyOf xs p) .1 h
+        | inl (_, tally) ↦ tally ∙ off-inside (tallyIn xs p) .1 h
         | inr (j, f, g) ↦ not-both (f .on) (off j (f .inside))
       ]
 

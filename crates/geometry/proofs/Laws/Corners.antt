@@ -6,16 +6,16 @@ use native.Mathlib.Omega.{arith}
 use lib.ListN.{length, getD}
 use lib.Ieee.{Float, nan}
 use Rattle.point.specs.declared.Point.{Point}
-use Rattle.geometry.specs.Zone.{cornersOf, cornerAt}
+use Rattle.geometry.specs.Zone.{pointsOf, cornerAt}
 
-pub corners-count : (xs : List Float) → length (cornersOf xs) ≡ length xs / 2
-unfolding cornersOf
+pub corners-count : (xs : List Float) → length (pointsOf xs) ≡ length xs / 2
+unfolding pointsOf
 corners-count [] = refl
 corners-count (x ∷ []) = refl
 corners-count (x ∷ y ∷ xs) = omega (arith, corners-count xs)
 
-pub corners-entry : (xs : List Float) (k : ℕ) (other : Point) → k < length xs / 2 → getD (cornersOf xs) k other ≡ cornerAt xs k
-unfolding cornersOf
+pub corners-entry : (xs : List Float) (k : ℕ) (other : Point) → k < length xs / 2 → getD (pointsOf xs) k other ≡ cornerAt xs k
+unfolding pointsOf
 corners-entry [] k other h = let z : ⊥ = omega arith in absurd z
 corners-entry (x ∷ []) k other h = let z : ⊥ = omega arith in absurd z
 corners-entry (x ∷ y ∷ xs) zero other h = refl

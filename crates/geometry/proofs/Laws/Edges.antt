@@ -7,29 +7,33 @@ use Prim.Native.Nat.{ℕ, zero, suc, _+_, _*_, _<_}
 use native.Mathlib.Numerals.{add-one}
 use native.Mathlib.Omega.{arith}
 use lib.Dec.{ltb}
-use lib.IntN.{ℤ, pos, negsuc}
 use lib.ListN.{length, drop, getD}
 use lib.Ieee.{Float, nan, lt, le}
 use borrow.Author.Tests.{ltb-true, ltb-false}
 use Rattle.point.specs.declared.Point.{Point}
 use Rattle.whole.specs.Sign.{sgn}
-use Rattle.double.proofs.Laws.Compare.{above-finite}
-use Rattle.point.specs.Accepted.{reach}
-use Rattle.point.proofs.Laws.Accepted.{accepted-finite}
+use Rattle.ground.specs.Compare.{atMost, below, isZero, isPositive, isNegative}
+use Rattle.ground.specs.Plane.{Spot}
+use Rattle.ground.specs.Edge.{Edge, edge, edgesFrom, edgesOf, sideOfEdge, between, onEdge, isUp, isDown}
 use Rattle.sum.specs.Total.{signNumber}
 use Rattle.sum.specs.declared.answer.Sign.{Sign}
-use Rattle.geometry.specs.Side.{Accepted}
-use Rattle.geometry.specs.Parts.{InBox, Rises, Falls}
-use Rattle.geometry.specs.Zone.{cornersOf, Edge, edge, edgesFrom, edgesOf, cornerAt, nextOf}
-use Rattle.geometry.specs.Zone.{isZero, isPositive, isNegative, sideOfEdge, between, onEdge, isUp, isDown, crossingOf}
+use Rattle.ground.proofs.Laws.Compare.{below-not, sgn-is-zero, sgn-is-positive, sgn-is-negative}
+use Rattle.geometry.specs.Spot.{spotOf}
+use Rattle.geometry.specs.Parts.{liesBetween, InBox, Rises, Falls, crossingOf}
+use Rattle.geometry.specs.Zone.{cornersOf, cornerAt, nextOf}
+use Rattle.geometry.proofs.Laws.Worths.{RealPoint, le-worth, lt-worth, between-worth}
 use Rattle.geometry.specs.declared.edges.Crossing.{Crossing}
 use Rattle.geometry.specs.declared.edges.Crossing.the-variants.{None, Up, Down}
 
 -- ---- corners and edges by number
-abbrev corner : Float → Float → Point
-corner x y = record { x = x; y = y }
+abbrev corner : Float → Float → Spot
+corner x y = spotOf (record { x = x; y = y })
 
-corner-later : (x y : Float) (xs : List Float) (k : ℕ) → cornerAt xs k ≡ cornerAt (x ∷ y ∷ xs) (suc k)
+-- what corner k is worth
+abbrev spotAt : List Float → ℕ → Spot
+spotAt xs k = spotOf (cornerAt xs k)
+
+corner-later : (x y : Float) (xs : List Float) (k : ℕ) → spotAt xs k ≡ spotAt (x ∷ y ∷ xs) (suc k)
 corner-later x y xs k = ap₂ (λ (i j : ℕ). corner (getD (x ∷ y ∷ xs) i nan) (getD (x ∷ y ∷ xs) j nan)) even odd
   where
     even : suc (suc (2 * k)) ≡ 2 * suc k
@@ -39,22 +43,22 @@ corner-later x y xs k = ap₂ (λ (i j : ℕ). corner (getD (x ∷ y ∷ xs) i n
     odd = omega arith
 
 -- an edge to the next corner
-edges-inner : (first : Point) (x y : Float) (xs : List Float) (k : ℕ) → 2 * k + 1 < length xs
+edges-inner : (first : Spot) (x y : Float) (xs : List Float) (k : ℕ) → 2 * k + 1 < length xs
     → drop k (edgesFrom first (corner x y) (cornersOf xs))
-    ≡ edge (cornerAt (x ∷ y ∷ xs) k) (cornerAt (x ∷ y ∷ xs) (suc k)) ∷ drop (suc k) (edgesFrom first (corner x y) (cornersOf xs))
+    ≡ edge (spotAt (x ∷ y ∷ xs) k) (spotAt (x ∷ y ∷ xs) (suc k)) ∷ drop (suc k) (edgesFrom first (corner x y) (cornersOf xs))
 unfolding cornersOf edgesFrom
 edges-inner first x y [] k h = let z : ⊥ = omega arith in absurd z
 edges-inner first x y (u ∷ []) k h = let z : ⊥ = omega arith in absurd z
 edges-inner first x y (u ∷ v ∷ xs) zero h = refl
 edges-inner first x y (u ∷ v ∷ xs) (suc k) h =
     edges-inner first u v xs k (omega arith)
-    ∙ ap₂ (λ (a b : Point). edge a b ∷ drop (suc k) (edgesFrom first (corner u v) (cornersOf xs)))
+    ∙ ap₂ (λ (a b : Spot). edge a b ∷ drop (suc k) (edgesFrom first (corner u v) (cornersOf xs)))
     (corner-later x y (u ∷ v ∷ xs) k) (corner-later x y (u ∷ v ∷ xs) (suc k))
 
 -- the last edge closes the row
-edges-last : (first : Point) (x y : Float) (xs : List Float) (k : ℕ) → length xs ≡ 2 * k
+edges-last : (first : Spot) (x y : Float) (xs : List Float) (k : ℕ) → length xs ≡ 2 * k
     → drop k (edgesFrom first (corner x y) (cornersOf xs))
-    ≡ edge (cornerAt (x ∷ y ∷ xs) k) first ∷ drop (suc k) (edgesFrom first (corner x y) (cornersOf xs))
+    ≡ edge (spotAt (x ∷ y ∷ xs) k) first ∷ drop (suc k) (edgesFrom first (corner x y) (cornersOf xs))
 unfolding cornersOf edgesFrom
 edges-last first x y [] zero h = refl
 edges-last first x y [] (suc k) h = let z : ⊥ = omega arith in absurd z
@@ -62,10 +66,10 @@ edges-last first x y (u ∷ []) k h = let z : ⊥ = omega arith in absurd z
 edges-last first x y (u ∷ v ∷ xs) zero h = let z : ⊥ = omega arith in absurd z
 edges-last first x y (u ∷ v ∷ xs) (suc k) h =
     edges-last first u v xs k (omega arith)
-    ∙ ap (λ (a : Point). edge a first ∷ drop (suc k) (edgesFrom first (corner u v) (cornersOf xs))) (corner-later x y (u ∷ v ∷ xs) k)
+    ∙ ap (λ (a : Spot). edge a first ∷ drop (suc k) (edgesFrom first (corner u v) (cornersOf xs))) (corner-later x y (u ∷ v ∷ xs) k)
 
 pub edges-drop : (xs : List Float) (n k : ℕ) → length xs ≡ 2 * n → k < n
-    → drop k (edgesOf (cornersOf xs)) ≡ edge (cornerAt xs k) (cornerAt xs (nextOf n k)) ∷ drop (k + 1) (edgesOf (cornersOf xs))
+    → drop k (edgesOf (cornersOf xs)) ≡ edge (spotAt xs k) (spotAt xs (nextOf n k)) ∷ drop (k + 1) (edgesOf (cornersOf xs))
 unfolding cornersOf edgesOf
 edges-drop [] n k e h = let z : ⊥ = omega arith in absurd z
 edges-drop (x ∷ []) n k e h = let z : ⊥ = omega arith in absurd z
@@ -75,16 +79,16 @@ edges-drop (x ∷ y ∷ xs) n k e h = go (ltb (k + 1) n) refl
     row = edgesFrom (corner x y) (corner x y) (cornersOf xs)
 
     go : (b : Bool) → ltb (k + 1) n ≡ b
-        → drop k row ≡ edge (cornerAt (x ∷ y ∷ xs) k) (cornerAt (x ∷ y ∷ xs) (cond b (k + 1) 0)) ∷ drop (k + 1) row
+        → drop k row ≡ edge (spotAt (x ∷ y ∷ xs) k) (spotAt (x ∷ y ∷ xs) (cond b (k + 1) 0)) ∷ drop (k + 1) row
     go true t =
         edges-inner (corner x y) x y xs k (omega (arith, ltb-true (k + 1) n t))
-        ∙ ap (λ (i : ℕ). edge (cornerAt (x ∷ y ∷ xs) k) (cornerAt (x ∷ y ∷ xs) i) ∷ drop i row) (sym (add-one k))
+        ∙ ap (λ (i : ℕ). edge (spotAt (x ∷ y ∷ xs) k) (spotAt (x ∷ y ∷ xs) i) ∷ drop i row) (sym (add-one k))
     go false t =
         edges-last (corner x y) x y xs k (omega (arith, ltb-false (k + 1) n t))
-        ∙ ap (λ (i : ℕ). edge (cornerAt (x ∷ y ∷ xs) k) (corner x y) ∷ drop i row) (sym (add-one k))
+        ∙ ap (λ (i : ℕ). edge (spotAt (x ∷ y ∷ xs) k) (corner x y) ∷ drop i row) (sym (add-one k))
 
 -- as many edges as corners
-edgesFrom-length : (first a : Point) (rest : List Point) → length (edgesFrom first a rest) ≡ suc (length rest)
+edgesFrom-length : (first a : Spot) (rest : List Spot) → length (edgesFrom first a rest) ≡ suc (length rest)
 unfolding edgesFrom
 edgesFrom-length first a [] = refl
 edgesFrom-length first a (b ∷ rest) = ap suc (edgesFrom-length first b rest)
@@ -100,39 +104,20 @@ pub edges-length : (xs : List Float) (n : ℕ) → length xs ≡ 2 * n → lengt
 unfolding edgesOf
 edges-length xs n e = row-length (cornersOf xs) ∙ corners-length xs n e
   where
-    row-length : (ps : List Point) → length (edgesOf ps) ≡ length ps
+    row-length : (ps : List Spot) → length (edgesOf ps) ≡ length ps
     row-length [] = refl
     row-length (a ∷ rest) = edgesFrom-length a a rest
 
 -- ---- between two ends
 module _ (a b v : Float) where
-  pub between-up : le a v ≡ true → le v b ≡ true → true ≡ between a b v
+  pub between-up : le a v ≡ true → le v b ≡ true → true ≡ liesBetween a b v
   between-up h k = rw (h, k)
 
-  pub between-down : (le a v && le v b) ≡ false → le b v ≡ true → le v a ≡ between a b v
+  pub between-down : (le a v && le v b) ≡ false → le b v ≡ true → le v a ≡ liesBetween a b v
   between-down h k = sym (ap₂ (λ (p q : Bool). p || (q && le v a)) h k)
 
-  pub between-not : (le a v && le v b) ≡ false → le b v ≡ false → false ≡ between a b v
+  pub between-not : (le a v && le v b) ≡ false → le b v ≡ false → false ≡ liesBetween a b v
   between-not h k = sym (ap₂ (λ (p q : Bool). p || (q && le v a)) h k)
-
--- ---- an edge, by its sign
-sgn-zero : (z : ℤ) → isZero (sgn z) ≡ isZero z
-unfolding sgn
-sgn-zero (pos zero) = refl
-sgn-zero (pos (suc n)) = refl
-sgn-zero (negsuc n) = refl
-
-sgn-positive : (z : ℤ) → isPositive (sgn z) ≡ isPositive z
-unfolding sgn
-sgn-positive (pos zero) = refl
-sgn-positive (pos (suc n)) = refl
-sgn-positive (negsuc n) = refl
-
-sgn-negative : (z : ℤ) → isNegative (sgn z) ≡ isNegative z
-unfolding sgn
-sgn-negative (pos zero) = refl
-sgn-negative (pos (suc n)) = refl
-sgn-negative (negsuc n) = refl
 
 -- ---- on an edge
 middle-fails : (a b c : Bool) → b ≡ false → false ≡ (a && (b && c))
@@ -144,29 +129,10 @@ last-fails true true c h = sym h
 last-fails true false c h = refl
 last-fails false b c h = refl
 
-module _ (e : Edge) (p : Point) where
-  pub edge-apart-x : between (e .from .x) (e .to .x) (p .x) ≡ false → false ≡ onEdge e p
-  unfolding onEdge
-  edge-apart-x h =
-      middle-fails (isZero (sideOfEdge e p)) (between (e .from .x) (e .to .x) (p .x)) (between (e .from .y) (e .to .y) (p .y)) h
-
-  pub edge-apart-y : between (e .from .y) (e .to .y) (p .y) ≡ false → false ≡ onEdge e p
-  unfolding onEdge
-  edge-apart-y h =
-      last-fails (isZero (sideOfEdge e p)) (between (e .from .x) (e .to .x) (p .x)) (between (e .from .y) (e .to .y) (p .y)) h
-
 -- between the ends, the sign decides
 first-decides : (z a b c : Bool) → z ≡ a → b ≡ true → c ≡ true → z ≡ (a && (b && c))
 first-decides z true b c e h k = rw (h, k) e
 first-decides z false b c e h k = e
-
-module _ (e : Edge) (p : Point) (s : Sign) (told : signNumber s ≡ sgn (sideOfEdge e p)) where
-  pub edge-met : InBox e p → isZero (signNumber s) ≡ onEdge e p
-  unfolding onEdge
-  edge-met b =
-      let z = sideOfEdge e p in
-      first-decides (isZero (signNumber s)) (isZero z) (between (e .from .x) (e .to .x) (p .x)) (between (e .from .y) (e .to .y) (p .y))
-      (ap isZero told ∙ sgn-zero z) (b .x) (b .y)
 
 -- ---- how an edge counts
 abbrev crossed : Bool → Bool → Bool → Bool → Bool → Bool → Crossing
@@ -191,42 +157,84 @@ module _ (a b c d e f : Bool) where
   crossed-over : a ≡ false → d ≡ false → None ≡ crossed a b c d e f
   crossed-over h k = rw (h, k)
 
--- an edge whose start is at most y does not go down past y: y is then not below that start
-module _ (e : Edge) (p : Point) (a : Accepted (e .from)) (q : Accepted p) where
-  order : lt (p .y) (e .from .y) ≡ not (le (e .from .y) (p .y))
-  order = above-finite (e .from .y) (p .y) (accepted-finite reach (e .from .y) (a .y)) (accepted-finite reach (p .y) (q .y))
+-- ---- the edge from a to b and the point p, by comparisons of doubles and the sign
+module _ (a b p : Point) (A : RealPoint a) (B : RealPoint b) (P : RealPoint p) where
+  abbrev e : Edge
+  e = edge (spotOf a) (spotOf b)
 
-  pub crossing-under : le (e .from .y) (p .y) ≡ true → lt (p .y) (e .to .y) ≡ false → None ≡ crossingOf e p
+  abbrev z : Spot
+  z = spotOf p
+
+  x-between : liesBetween (a .x) (b .x) (p .x) ≡ between (e .from .x) (e .to .x) (z .x)
+  x-between = between-worth (a .x) (b .x) (p .x) (A .x) (B .x) (P .x)
+
+  y-between : liesBetween (a .y) (b .y) (p .y) ≡ between (e .from .y) (e .to .y) (z .y)
+  y-between = between-worth (a .y) (b .y) (p .y) (A .y) (B .y) (P .y)
+
+  pub edge-apart-x : liesBetween (a .x) (b .x) (p .x) ≡ false → false ≡ onEdge e z
+  unfolding onEdge
+  edge-apart-x h =
+      middle-fails (isZero (sideOfEdge e z)) (between (e .from .x) (e .to .x) (z .x)) (between (e .from .y) (e .to .y) (z .y))
+      (sym x-between ∙ h)
+
+  pub edge-apart-y : liesBetween (a .y) (b .y) (p .y) ≡ false → false ≡ onEdge e z
+  unfolding onEdge
+  edge-apart-y h =
+      last-fails (isZero (sideOfEdge e z)) (between (e .from .x) (e .to .x) (z .x)) (between (e .from .y) (e .to .y) (z .y))
+      (sym y-between ∙ h)
+
+  -- the heights
+  from-worth : le (a .y) (p .y) ≡ atMost (e .from .y) (z .y)
+  from-worth = le-worth (a .y) (p .y) (A .y) (P .y)
+
+  to-worth : le (b .y) (p .y) ≡ atMost (e .to .y) (z .y)
+  to-worth = le-worth (b .y) (p .y) (B .y) (P .y)
+
+  under-worth : lt (p .y) (b .y) ≡ below (z .y) (e .to .y)
+  under-worth = lt-worth (p .y) (b .y) (P .y) (B .y)
+
+  pub crossing-under : le (a .y) (p .y) ≡ true → lt (p .y) (b .y) ≡ false → None ≡ crossingOf e z
   unfolding isUp isDown
   crossing-under h k =
-      let z = sideOfEdge e p in
-      crossed-under (le (e .from .y) (p .y)) (lt (p .y) (e .to .y)) (isPositive z)
-      (le (e .to .y) (p .y)) (lt (p .y) (e .from .y)) (isNegative z)
-      h k (order ∙ ap not h)
+      let s = sideOfEdge e z in
+      let at : atMost (e .from .y) (z .y) ≡ true = sym from-worth ∙ h in
+      crossed-under (atMost (e .from .y) (z .y)) (below (z .y) (e .to .y)) (isPositive s)
+      (atMost (e .to .y) (z .y)) (below (z .y) (e .from .y)) (isNegative s)
+      at (sym under-worth ∙ k) (below-not (e .from .y) (z .y) ∙ ap not at)
 
-  pub crossing-over : le (e .from .y) (p .y) ≡ false → le (e .to .y) (p .y) ≡ false → None ≡ crossingOf e p
+  pub crossing-over : le (a .y) (p .y) ≡ false → le (b .y) (p .y) ≡ false → None ≡ crossingOf e z
   unfolding isUp isDown
   crossing-over h k =
-      let z = sideOfEdge e p in
-      crossed-over (le (e .from .y) (p .y)) (lt (p .y) (e .to .y)) (isPositive z)
-      (le (e .to .y) (p .y)) (lt (p .y) (e .from .y)) (isNegative z)
-      h k
+      let s = sideOfEdge e z in
+      crossed-over (atMost (e .from .y) (z .y)) (below (z .y) (e .to .y)) (isPositive s)
+      (atMost (e .to .y) (z .y)) (below (z .y) (e .from .y)) (isNegative s)
+      (sym from-worth ∙ h) (sym to-worth ∙ k)
 
-  module _ (s : Sign) (told : signNumber s ≡ sgn (sideOfEdge e p)) where
-    pub crossing-rising : Rises e p → cond (isPositive (signNumber s)) Up None ≡ crossingOf e p
+  -- and the sign
+  module _ (s : Sign) (told : signNumber s ≡ sgn (sideOfEdge e z)) where
+    pub edge-met : InBox a b p → isZero (signNumber s) ≡ onEdge e z
+    unfolding onEdge
+    edge-met h =
+        let d = sideOfEdge e z in
+        first-decides (isZero (signNumber s)) (isZero d) (between (e .from .x) (e .to .x) (z .x)) (between (e .from .y) (e .to .y) (z .y))
+        (ap isZero told ∙ sgn-is-zero d) (sym x-between ∙ h .x) (sym y-between ∙ h .y)
+
+    pub crossing-rising : Rises a b p → cond (isPositive (signNumber s)) Up None ≡ crossingOf e z
     unfolding isUp isDown
     crossing-rising g =
-        let z = sideOfEdge e p in
-        ap (λ (b : Bool). cond b Up None) (ap isPositive told ∙ sgn-positive z)
-        ∙ crossed-rising (le (e .from .y) (p .y)) (lt (p .y) (e .to .y)) (isPositive z)
-        (le (e .to .y) (p .y)) (lt (p .y) (e .from .y)) (isNegative z)
-        (g .from) (g .to) (order ∙ ap not (g .from))
+        let d = sideOfEdge e z in
+        let at : atMost (e .from .y) (z .y) ≡ true = sym from-worth ∙ g .from in
+        ap (λ (t : Bool). cond t Up None) (ap isPositive told ∙ sgn-is-positive d)
+        ∙ crossed-rising (atMost (e .from .y) (z .y)) (below (z .y) (e .to .y)) (isPositive d)
+        (atMost (e .to .y) (z .y)) (below (z .y) (e .from .y)) (isNegative d)
+        at (sym under-worth ∙ g .to) (below-not (e .from .y) (z .y) ∙ ap not at)
 
-    pub crossing-falling : Falls e p → cond (isNegative (signNumber s)) Down None ≡ crossingOf e p
+    pub crossing-falling : Falls a b p → cond (isNegative (signNumber s)) Down None ≡ crossingOf e z
     unfolding isUp isDown
     crossing-falling g =
-        let z = sideOfEdge e p in
-        ap (λ (b : Bool). cond b Down None) (ap isNegative told ∙ sgn-negative z)
-        ∙ crossed-falling (le (e .from .y) (p .y)) (lt (p .y) (e .to .y)) (isPositive z)
-        (le (e .to .y) (p .y)) (lt (p .y) (e .from .y)) (isNegative z)
-        (g .from) (g .to) (order ∙ ap not (g .from))
+        let d = sideOfEdge e z in
+        let at : atMost (e .from .y) (z .y) ≡ false = sym from-worth ∙ g .from in
+        ap (λ (t : Bool). cond t Down None) (ap isNegative told ∙ sgn-is-negative d)
+        ∙ crossed-falling (atMost (e .from .y) (z .y)) (below (z .y) (e .to .y)) (isPositive d)
+        (atMost (e .to .y) (z .y)) (below (z .y) (e .from .y)) (isNegative d)
+        at (sym to-worth ∙ g .to) (below-not (e .from .y) (z .y) ∙ ap not at)

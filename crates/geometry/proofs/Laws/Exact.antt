@@ -10,9 +10,9 @@ use lib.IntN.{ℤ}
 use lib.ListN.{length}
 use lib.Ieee.{Float}
 use Rattle.whole.specs.Sign.{sgn}
-use Rattle.double.specs.Outcome.{Outcome, answers, refuses}
-use Rattle.double.specs.declared.refusal.Refusal.{Refusal}
-use Rattle.double.proofs.Laws.Outcome.{never}
+use Rattle.refusal.specs.Outcome.{Outcome, answers, refuses}
+use Rattle.refusal.specs.declared.Refusal.{Refusal}
+use Rattle.refusal.proofs.Laws.Outcome.{never}
 use Rattle.point.specs.declared.Point.{Point}
 use Rattle.point.specs.Accepted.{reach}
 use Rattle.sum.specs.Limit.{limit}
@@ -26,7 +26,7 @@ use Rattle.sum.specs.declared.answer.Ran.{Ran}
 use Rattle.sum.specs.declared.answer.Run.{Run}
 use Rattle.sum.specs.declared.answer.Run.the-variants.{Done, Refused}
 use Rattle.sum.proofs.Laws.Calls.{real-accepted, run-answers, run-told, settled-told}
-use Rattle.geometry.specs.Determinant.{determinant}
+use Rattle.geometry.specs.Spot.{determinant}
 use Rattle.geometry.specs.Product.{summandsOf}
 use Rattle.geometry.specs.Side.{Turned, turned, mostSteps, byRun, exactOf}
 use Rattle.geometry.proofs.Laws.Product.{Within}

@@ -14,13 +14,13 @@ use lib.Ieee.{Float, binary64, ofBits, sub, neg, lt, eq, fits}
 use Rattle.whole.specs.Order.{_<ᶻ_}
 use Rattle.double.specs.Worth.{mag, plus0}
 use Rattle.double.proofs.Laws.Sized.{Reach, sub-range}
-use Rattle.double.proofs.Laws.Greater.{greater-of, zero-test}
-use Rattle.double.proofs.Laws.Threshold.{Constant}
-use Rattle.double.proofs.Laws.Orientation.{Filtered, filtered-farther}
+use Rattle.side_filter.proofs.Laws.Greater.{greater-of, zero-test}
+use Rattle.side_filter.proofs.Laws.Threshold.{Constant}
+use Rattle.side_filter.proofs.Laws.Orientation.{Filtered, filtered-farther}
 use Rattle.point.specs.declared.Point.{Point}
 use Rattle.point.specs.Accepted.{reach, magnitudeOf}
 use Rattle.sum.specs.declared.answer.Sign.the-variants.{Minus, Zero, Plus}
-use Rattle.geometry.specs.Determinant.{determinant}
+use Rattle.geometry.specs.Spot.{determinant}
 use Rattle.geometry.specs.Filter.{filterConstant, greater, spanOf, xSpanOf, ySpanOf, thresholdOf, differenceOf}
 use Rattle.geometry.specs.Filter.{clearBy, filterBy, filterOf, FilterSays}
 use Rattle.geometry.specs.declared.filter.Early.{Early}

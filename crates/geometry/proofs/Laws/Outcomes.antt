@@ -4,16 +4,18 @@ use mathlib.Core.Bool.{Bool, true, false, cond}
 use mathlib.Core.List.{List, [], _∷_}
 use Prim.Native.Nat.{ℕ, _+_, _/_, _%_, _≤_}
 use native.Mathlib.Omega.{arith}
-use lib.Dec.{eqb, ltb}
+use lib.Dec.{eqb, leb}
 use lib.ListN.{length}
 use lib.Ieee.{Float}
-use Rattle.double.specs.Outcome.{Outcome, answers, refuses, tooMany, notAccepted, tooFewCorners, oddLength}
-use Rattle.double.specs.Search.{passingFrom}
-use Rattle.double.specs.declared.refusal.Refusal.{Refusal}
+use Rattle.refusal.specs.Outcome.{Outcome, answers, refuses, tooMany, notAccepted, tooFewCorners, oddLength}
+use Rattle.refusal.specs.Search.{passingFrom}
+use Rattle.refusal.proofs.Laws.Judged.{require-either}
+use Rattle.refusal.specs.declared.Refusal.{Refusal}
 use Rattle.point.specs.declared.Point.{Point}
 use Rattle.point.specs.Accepted.{acceptedOf, acceptingFrom}
 use Rattle.geometry.specs.Side.{Turned, turnOf, sixOf, sideOf, said, SideSays}
-use Rattle.geometry.specs.Zone.{Lies, ZoneSays, fewest, most, cornersOf, edgesOf, placeOf, zoneOf, zoneSaid}
+use Rattle.geometry.specs.Zone.{ZoneSays, fewest, most, placeIn, zoneOf, zoneSaid}
+use Rattle.ground.specs.Zone.{Lies}
 use Rattle.geometry.specs.declared.answer.Side.the-variants.{Refused as SideRefused}
 use Rattle.geometry.specs.declared.answer.Zone.the-variants.{Refused as ZoneRefused}
 
@@ -41,14 +43,10 @@ pub zone-outcomes : (P : Outcome Lies → Type 0) → ((place : Lies) → P (ans
     → P (refuses tooMany 0) → ((place : ℕ) → P (refuses notAccepted place)) → (corners : List Float) (p : Point) → P (zoneOf corners p)
 unfolding zoneOf
 zone-outcomes P answered odd few many refused corners p =
-    let place = placeOf (edgesOf (cornersOf corners)) p in
-    let judged = acceptingFrom 0 (p .x ∷ p .y ∷ corners) place in
-    let some = cond (ltb most (length corners / 2)) (refuses tooMany 0) judged in
-    let even = cond (ltb (length corners / 2) fewest) (refuses tooFewCorners 0) some in
-    cond-holds P (eqb (length corners % 2) 1) (refuses oddLength 0) even odd
-    (cond-holds P (ltb (length corners / 2) fewest) (refuses tooFewCorners 0) some few
-    (cond-holds P (ltb most (length corners / 2)) (refuses tooMany 0) judged many
-    (accepting-outcomes P place (answered place) refused 0 (p .x ∷ p .y ∷ corners))))
+    require-either P (eqb (length corners % 2) 0) oddLength 0 _ odd
+    (require-either P (leb fewest (length corners / 2)) tooFewCorners 0 _ few
+    (require-either P (leb (length corners / 2) most) tooMany 0 _ many
+    (accepting-outcomes P (placeIn corners p) (answered (placeIn corners p)) refused 0 (p .x ∷ p .y ∷ corners))))
 
 -- ---- the numbers of the refusals: the table's last is 9
 abbrev Tabled : {A : Type 0} → Outcome A → Type 0

@@ -24,7 +24,8 @@ use Rattle.double.proofs.Laws.Roundoff.{exact-worth, factors-reach, roundoff-si
 use Rattle.point.specs.declared.Point.{Point}
 use Rattle.point.specs.Accepted.{reach}
 use Rattle.point.proofs.Laws.Accepted.{accepted-real, accepted-range}
-use Rattle.geometry.specs.Product.{unit, roundoffOf, Factors, ExactProduct}
+use Rattle.geometry.specs.Product.{unit, roundoffOf}
+use Rattle.geometry.specs.Parts.{Factors, ExactProduct}
 use Rattle.geometry.specs.Side.{Accepted}
 
 -- ---- a quotient without remainder

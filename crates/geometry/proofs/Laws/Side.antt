@@ -7,16 +7,16 @@ use Prim.Native.Nat.{ℕ, _≤_, _<_, zero-le}
 use native.Mathlib.Nat.{lt-irrefl}
 use Rattle.whole.specs.Sign.{sgn}
 use Rattle.whole.proofs.Laws.Sign.{sgn-positive, sgn-zero, sgn-negative}
-use Rattle.double.specs.Outcome.{answers, refuses, notAccepted, Fixes}
-use Rattle.double.specs.Search.{passingFrom}
-use Rattle.double.proofs.Laws.Outcome.{refuses-once}
+use Rattle.refusal.specs.Outcome.{answers, refuses, notAccepted, Fixes}
+use Rattle.refusal.specs.Search.{passingFrom}
+use Rattle.refusal.proofs.Laws.Outcome.{refuses-once}
 use Rattle.point.specs.declared.Point.{Point}
 use Rattle.point.specs.Accepted.{reach, acceptedOf}
 use Rattle.sum.specs.Total.{signNumber}
 use Rattle.sum.specs.declared.answer.Sign.{Sign}
 use Rattle.sum.specs.declared.answer.Sign.the-variants.{Minus, Zero, Plus}
-use Rattle.sum.proofs.Laws.Running.{sign-once}
-use Rattle.geometry.specs.Determinant.{determinant}
+use Rattle.sum.proofs.Laws.Look.{sign-once}
+use Rattle.geometry.specs.Spot.{determinant}
 use Rattle.geometry.specs.Filter.{filterOf, FilterSays}
 use Rattle.geometry.specs.Side.{Turned, mostSteps, exactOf, byStage, turnOf, turnSaid, said, sideOf, SideSays, Accepted}
 use Rattle.geometry.specs.declared.answer.Turn.{Turn}

@@ -26,7 +26,7 @@ use Rattle.sum.specs.Ceiling.{roundUp, ceilingOf}
 use Rattle.sum.proofs.Laws.Entries.{All, AllReal, all-map}
 use Rattle.sum.proofs.Laws.Ceiling.{ceiling-sized}
 use Rattle.sum.proofs.Laws.Calls.{total-none, total-more}
-use Rattle.geometry.specs.Determinant.{determinant}
+use Rattle.geometry.specs.Spot.{determinant}
 use Rattle.geometry.specs.Product.{unit, roundoffOf, summandsOf}
 use Rattle.geometry.specs.Side.{mostSteps}
 use Rattle.geometry.proofs.Laws.Product.{Within, Paired, pairGrain, pairMost, reach-neg, worth-neg, reach-paired}

@@ -1,28 +1,32 @@
 -- All edges of a zone, and its refusals. In order: one more edge in the count, which no edge enters twice; the place off the border; the
 -- count and the walk over the edges of a flat list; the refusals in their order; no two results satisfy the promise. Not here: one edge (`Edges`). Assumes nothing.
 use mathlib.Core.Path.{_≡_, refl, sym, ap, ap₂, _∙_, subst}
-use mathlib.Core.Bool.{Bool, true, false, cond, _&&_}
+use mathlib.Core.Bool.{Bool, true, false, cond}
 use mathlib.Core.List.{List, [], _∷_}
-use Prim.Native.Nat.{ℕ, zero, suc, _+_, _*_, _/_, _%_, _≤_, _<_}
+use Prim.Native.Nat.{ℕ, suc, _+_, _*_, _/_, _%_, _≤_, _<_}
 use native.Mathlib.Nat.{le-refl}
 use native.Mathlib.Omega.{arith}
-use lib.Dec.{T, ltb}
-use lib.IntN.{ℤ, pos, negsuc}
+use lib.Dec.{T, eqb, leb, ltb}
 use lib.ListN.{length, drop, length-drop, drop-of-length-le}
-use lib.Ieee.{Float, nan, lt, le}
-use borrow.Author.Tests.{ltb-true, lt-ltb, le-ltb, eq-eqb, ne-eqb}
-use Rattle.double.specs.Outcome.{answers, refuses, Fixes, tooMany, notAccepted, tooFewCorners, oddLength}
-use Rattle.double.specs.declared.refusal.Refusal.{Refusal}
-use Rattle.double.specs.Search.{passingFrom, AllPass}
-use Rattle.double.proofs.Laws.Outcome.{refuses-once}
-use Rattle.double.proofs.Laws.Search.{passing-answered, passing-other, failing-other}
+use lib.Ieee.{Float, nan}
+use borrow.Author.Tests.{ltb-true, le-leb, lt-leb, eq-eqb, ne-eqb}
+use Rattle.refusal.specs.Outcome.{Outcome, answers, refuses, Fixes, tooMany, notAccepted, tooFewCorners, oddLength}
+use Rattle.refusal.specs.declared.Refusal.{Refusal}
+use Rattle.refusal.specs.Search.{passingFrom, AllPass}
+use Rattle.refusal.specs.Judged.{require, also}
+use Rattle.refusal.proofs.Laws.Judged.{require-holds, require-fails}
+use Rattle.refusal.proofs.Laws.Outcome.{refuses-once}
+use Rattle.refusal.proofs.Laws.Search.{passing-answered, passing-other, failing-other}
 use Rattle.point.specs.declared.Point.{Point}
 use Rattle.point.specs.Accepted.{acceptedOf, acceptingFrom}
 use Rattle.geometry.specs.Side.{Accepted}
-use Rattle.geometry.specs.Zone.{fewest, most, cornersOf, Edge, edge, edgesOf, isPositive, isNegative, sideOfEdge}
-use Rattle.geometry.specs.Zone.{onEdge, isUp, isDown, crossingOf, countOf, Lies, outside, border, inside, parity, walk, placeOf, cornerAt}
-use Rattle.geometry.specs.Zone.{nextOf, Zoned, placeSaid, zoneSaid, zoneOf, ZoneSays}
-use Rattle.geometry.specs.Parts.{withEdge, countsOf, cornersFault, faultSaid}
+use Rattle.ground.specs.Plane.{Spot}
+use Rattle.ground.specs.Edge.{Edge, edge, edgesOf, onEdge, isUp, isDown}
+use Rattle.ground.specs.Zone.{countOf, tallyOf, Lies, outside, border, inside, offBorder, walk, placeOf}
+use Rattle.ground.proofs.Laws.Edges.{crossing-once}
+use Rattle.geometry.specs.Spot.{spotOf}
+use Rattle.geometry.specs.Zone.{fewest, most, cornersOf, placeIn, cornerAt, nextOf, Zoned, placeSaid, zoneSaid, zoneOf, ZoneSays}
+use Rattle.geometry.specs.Parts.{crossingOf, withEdge, countsOf, cornersFault, faultSaid}
 use Rattle.geometry.specs.declared.edges.Crossing.the-variants.{None, Up, Down}
 use Rattle.geometry.specs.declared.zones.Counts.{Counts}
 use Rattle.geometry.specs.declared.zones.Fault.the-variants.{None as FaultNone, At as FaultAt}
@@ -33,40 +37,22 @@ use Rattle.geometry.specs.declared.answer.Zone.the-variants.{At, Refused
 use Rattle.geometry.proofs.Laws.Edges.{edges-drop, edges-length}
 
 -- ---- the count
--- no edge counts upward and downward
-not-both : (x c y f : Bool) → (c && f) ≡ false → ((x && c) && (y && f)) ≡ false
-not-both false c y f h = refl
-not-both true false y f h = refl
-not-both true true true f h = h
-not-both true true false f h = refl
-
-one-sign : (z : ℤ) → (isPositive z && isNegative z) ≡ false
-one-sign (pos zero) = refl
-one-sign (pos (suc n)) = refl
-one-sign (negsuc n) = refl
-
-crossing-once : (e : Edge) (p : Point) → (isUp e p && isDown e p) ≡ false
-unfolding isUp isDown
-crossing-once e p =
-    not-both (le (e .from .y) (p .y) && lt (p .y) (e .to .y)) (isPositive (sideOfEdge e p))
-    (le (e .to .y) (p .y) && lt (p .y) (e .from .y)) (isNegative (sideOfEdge e p)) (one-sign (sideOfEdge e p))
-
 -- an edge adds to one count, or to none
 abbrev counts : ℕ → ℕ → Counts
 counts m n = record { ups = m; downs = n }
 
-edge-adds : (u d : Bool) (m n : ℕ) → (u && d) ≡ false
+edge-adds : (u d : Bool) (m n : ℕ) → (u ≡ true → d ≡ false)
     → withEdge (counts m n) (cond u Up (cond d Down None)) ≡ counts (cond u 1 0 + m) (cond d 1 0 + n)
-edge-adds true true m n h = absurd (subst T h tt)
+edge-adds true true m n h = absurd (subst T (h refl) tt)
 edge-adds true false m n h = ap₂ counts (omega arith) (omega arith)
 edge-adds false true m n h = ap₂ counts (omega arith) (omega arith)
 edge-adds false false m n h = ap₂ counts (omega arith) (omega arith)
 
-counts-turn : (e : Edge) (es : List Edge) (p : Point) → withEdge (countsOf es p) (crossingOf e p) ≡ countsOf (e ∷ es) p
+counts-turn : (e : Edge) (es : List Edge) (p : Spot) → withEdge (countsOf es p) (crossingOf e p) ≡ countsOf (e ∷ es) p
 unfolding countOf
 counts-turn e es p = edge-adds (isUp e p) (isDown e p) (countOf isUp es p) (countOf isDown es p) (crossing-once e p)
 
-count-most : (is : Edge → Point → Bool) (es : List Edge) (p : Point) → countOf is es p ≤ length es
+count-most : (is : Edge → Spot → Bool) (es : List Edge) (p : Spot) → countOf is es p ≤ length es
 unfolding countOf
 count-most is [] p = le-refl 0
 count-most is (e ∷ es) p = go (is e p) (count-most is es p)
@@ -77,23 +63,29 @@ count-most is (e ∷ es) p = go (is e p) (count-most is es p)
 
 -- ---- the place
 -- what is answered off the border, and by the walk from edge k on
-abbrev pub offBorder : List Edge → Point → Lies
-offBorder es p = parity (countOf isUp es p + countOf isDown es p)
+abbrev pub offOf : List Edge → Spot → Lies
+offOf es p = offBorder (tallyOf es p)
 
 abbrev pub walkFrom : List Float → Point → ℕ → Lies
-walkFrom xs p k = walk k (drop k (edgesOf (cornersOf xs))) p (offBorder (edgesOf (cornersOf xs)) p)
+walkFrom xs p k = walk k (drop k (edgesOf (cornersOf xs))) (spotOf p) (offOf (edgesOf (cornersOf xs)) (spotOf p))
 
-pub walk-start : (xs : List Float) (p : Point) → walkFrom xs p 0 ≡ placeOf (edgesOf (cornersOf xs)) p
-unfolding placeOf
+pub walk-start : (xs : List Float) (p : Point) → walkFrom xs p 0 ≡ placeIn xs p
+unfolding placeIn placeOf
 walk-start xs p = refl
 
-module _ (es : List Edge) (p : Point) (t : Counts) (e : t ≡ countsOf es p) where
-  pub off-inside : (t .ups + t .downs) % 2 ≡ 1 → inside ≡ offBorder es p
+-- odd or even
+abbrev parity : ℕ → Lies
+parity n = cond (eqb (n % 2) 1) inside outside
+
+module _ (es : List Edge) (p : Spot) (t : Counts) (e : t ≡ countsOf es p) where
+  pub off-inside : (t .ups + t .downs) % 2 ≡ 1 → inside ≡ offOf es p
+  unfolding offBorder tallyOf
   off-inside h =
       let i : inside ≡ parity (t .ups + t .downs) = rw (eq-eqb ((t .ups + t .downs) % 2) 1 h) in
       i ∙ ap (λ (t : Counts). parity (t .ups + t .downs)) e
 
-  pub off-outside : ((t .ups + t .downs) % 2 ≡ 1 → ⊥) → outside ≡ offBorder es p
+  pub off-outside : ((t .ups + t .downs) % 2 ≡ 1 → ⊥) → outside ≡ offOf es p
+  unfolding offBorder tallyOf
   off-outside h =
       let o : outside ≡ parity (t .ups + t .downs) = rw (ne-eqb ((t .ups + t .downs) % 2) 1 h) in
       o ∙ ap (λ (t : Counts). parity (t .ups + t .downs)) e
@@ -109,7 +101,7 @@ next-inside k n h = go (ltb (k + 1) n) refl
 
 module _ (xs : List Float) (n : ℕ) (p : Point) (size : length xs ≡ 2 * n) where
   abbrev at : ℕ → Edge
-  at k = edge (cornerAt xs k) (cornerAt xs (nextOf n k))
+  at k = edge (spotOf (cornerAt xs k)) (spotOf (cornerAt xs (nextOf n k)))
 
   row-end : (k : ℕ) → n ≤ k → drop k (edgesOf (cornersOf xs)) ≡ []
   row-end k h =
@@ -117,34 +109,34 @@ module _ (xs : List Float) (n : ℕ) (p : Point) (size : length xs ≡ 2 * n) wh
       drop-of-length-le (edgesOf (cornersOf xs)) l
 
   -- the count goes from the last edge to the first
-  pub counts-end : counts 0 0 ≡ countsOf (drop n (edgesOf (cornersOf xs))) p
+  pub counts-end : counts 0 0 ≡ countsOf (drop n (edgesOf (cornersOf xs))) (spotOf p)
   unfolding countOf
-  counts-end = sym (ap (λ (es : List Edge). countsOf es p) (row-end n (le-refl n)))
+  counts-end = sym (ap (λ (es : List Edge). countsOf es (spotOf p)) (row-end n (le-refl n)))
 
   pub counts-before : (j k : ℕ) → k ≡ j + 1 → j < n
-      → withEdge (countsOf (drop k (edgesOf (cornersOf xs))) p) (crossingOf (edge (cornerAt xs j) (cornerAt xs (nextOf n j))) p)
-      ≡ countsOf (drop j (edgesOf (cornersOf xs))) p
+      → withEdge (countsOf (drop k (edgesOf (cornersOf xs))) (spotOf p)) (crossingOf (at j) (spotOf p))
+      ≡ countsOf (drop j (edgesOf (cornersOf xs))) (spotOf p)
   counts-before j k e h =
-      ap (λ (i : ℕ). withEdge (countsOf (drop i (edgesOf (cornersOf xs))) p) (crossingOf (at j) p)) e
-      ∙ counts-turn (at j) (drop (j + 1) (edgesOf (cornersOf xs))) p
-      ∙ ap (λ (es : List Edge). countsOf es p) (sym (edges-drop xs n j size h))
+      ap (λ (i : ℕ). withEdge (countsOf (drop i (edgesOf (cornersOf xs))) (spotOf p)) (crossingOf (at j) (spotOf p))) e
+      ∙ counts-turn (at j) (drop (j + 1) (edgesOf (cornersOf xs))) (spotOf p)
+      ∙ ap (λ (es : List Edge). countsOf es (spotOf p)) (sym (edges-drop xs n j size h))
 
-  pub count-few : (is : Edge → Point → Bool) (k : ℕ) → countOf is (drop k (edgesOf (cornersOf xs))) p ≤ n
+  pub count-few : (is : Edge → Spot → Bool) (k : ℕ) → countOf is (drop k (edgesOf (cornersOf xs))) (spotOf p) ≤ n
   count-few is k =
       let es = edgesOf (cornersOf xs) in
-      omega (arith, count-most is (drop k es) p, length-drop k es, edges-length xs n size)
+      omega (arith, count-most is (drop k es) (spotOf p), length-drop k es, edges-length xs n size)
 
   -- the walk goes from the first edge to the last
-  pub walk-here : (k : ℕ) → k < n → onEdge (edge (cornerAt xs k) (cornerAt xs (nextOf n k))) p ≡ true → walkFrom xs p k ≡ border k
+  pub walk-here : (k : ℕ) → k < n → onEdge (at k) (spotOf p) ≡ true → walkFrom xs p k ≡ border k
   unfolding walk
   walk-here k h e = rw (edges-drop xs n k size h, e)
 
-  pub walk-later : (k : ℕ) → k < n → onEdge (edge (cornerAt xs k) (cornerAt xs (nextOf n k))) p ≡ false
+  pub walk-later : (k : ℕ) → k < n → onEdge (at k) (spotOf p) ≡ false
       → walkFrom xs p k ≡ walkFrom xs p (k + 1)
   unfolding walk
   walk-later k h e = rw (edges-drop xs n k size h, e)
 
-  pub walk-end : (k : ℕ) → n ≤ k → walkFrom xs p k ≡ offBorder (edgesOf (cornersOf xs)) p
+  pub walk-end : (k : ℕ) → n ≤ k → walkFrom xs p k ≡ offOf (edgesOf (cornersOf xs)) (spotOf p)
   unfolding walk
   walk-end k h = rw (row-end k h)
 
@@ -168,26 +160,47 @@ zone-zoned xs even some few h = record {
 -- ---- the refusals in their order
 module _ (xs : List Float) (p : Point) where
   abbrev placed : Lies
-  placed = placeOf (edgesOf (cornersOf xs)) p
+  placed = placeIn xs p
+
+  -- what is judged after each test
+  afterMany : Unit {0} → Outcome Lies
+  afterMany u = acceptingFrom 0 (p .x ∷ p .y ∷ xs) placed
+
+  afterFew : Unit {0} → Outcome Lies
+  afterFew u = also (require (leb (length xs / 2) most) tooMany 0) afterMany
+
+  afterOdd : Unit {0} → Outcome Lies
+  afterOdd u = also (require (leb fewest (length xs / 2)) tooFewCorners 0) afterFew
+
+  in-order : also (require (eqb (length xs % 2) 0) oddLength 0) afterOdd ≡ zoneOf xs p
+  unfolding zoneOf afterOdd afterFew afterMany
+  in-order = refl
 
   pub zone-odd : length xs % 2 ≡ 1 → refuses oddLength 0 ≡ zoneOf xs p
-  unfolding zoneOf
-  zone-odd h = rw (eq-eqb (length xs % 2) 1 h)
+  zone-odd h = sym (require-fails oddLength 0 afterOdd (ne-eqb (length xs % 2) 0 (λ e. let z : ⊥ = omega arith in z))) ∙ in-order
 
   module _ (even : length xs % 2 ≡ 1 → ⊥) where
+    past-odd : afterOdd tt ≡ zoneOf xs p
+    past-odd = sym (require-holds oddLength 0 afterOdd (eq-eqb (length xs % 2) 0 (omega arith))) ∙ in-order
+
     pub zone-small : length xs / 2 < fewest → refuses tooFewCorners 0 ≡ zoneOf xs p
-    unfolding zoneOf
-    zone-small h = rw (ne-eqb (length xs % 2) 1 even, lt-ltb (length xs / 2) fewest h)
+    unfolding afterOdd
+    zone-small h = sym (require-fails tooFewCorners 0 afterFew (lt-leb fewest (length xs / 2) h)) ∙ past-odd
 
     module _ (some : fewest ≤ length xs / 2) where
+      past-few : afterFew tt ≡ zoneOf xs p
+      unfolding afterOdd
+      past-few = sym (require-holds tooFewCorners 0 afterFew (le-leb fewest (length xs / 2) some)) ∙ past-odd
+
       pub zone-large : most < length xs / 2 → refuses tooMany 0 ≡ zoneOf xs p
-      unfolding zoneOf
-      zone-large h = rw (ne-eqb (length xs % 2) 1 even, le-ltb (length xs / 2) fewest some, lt-ltb most (length xs / 2) h)
+      unfolding afterFew
+      zone-large h = sym (require-fails tooMany 0 afterMany (lt-leb (length xs / 2) most h)) ∙ past-few
 
       module _ (few : length xs / 2 ≤ most) where
-        judged : acceptingFrom 0 (p .x ∷ p .y ∷ xs) placed ≡ zoneOf xs p
-        unfolding zoneOf
-        judged = rw (ne-eqb (length xs % 2) 1 even, le-ltb (length xs / 2) fewest some, le-ltb most (length xs / 2) few)
+        -- no test of the list fails: then the coordinates are judged
+        pub judged : acceptingFrom 0 (p .x ∷ p .y ∷ xs) placed ≡ zoneOf xs p
+        unfolding afterFew afterMany
+        judged = sym (require-holds tooMany 0 afterMany (le-leb (length xs / 2) most few)) ∙ past-few
 
         pub zone-x : acceptedOf (p .x) ≡ false → refuses notAccepted 0 ≡ zoneOf xs p
         unfolding passingFrom
@@ -213,7 +226,7 @@ module _ (xs : List Float) (p : Point) where
           zone-place h place e = ap answers e ∙ sym (passing-other acceptedOf notAccepted 2 nan xs tt placed (sym h)) ∙ corners-judged
 
 -- ---- no two results satisfy the promise
-place-once : (a b : Place) → placeSaid a ≡ placeSaid b → a ≡ b
+pub place-once : (a b : Place) → placeSaid a ≡ placeSaid b → a ≡ b
 unfolding placeSaid
 place-once Outside Outside e = refl
 place-once Outside (Border k) e = cc

@@ -13,9 +13,8 @@ use lib.IntN.{ℤ}
 use lib.Pow.{pow-pos}
 use lib.Ieee.{Float, Format, nan, inf, fin, binary64, lt, le, eq, neg, ofBits, fits, size}
 use lib.Ieee.Fits.{and-l, and-r}
-use lib.Ieee.Scale.{finite}
 use Rattle.double.specs.Worth.{mag, plus, minus, signBit}
-use Rattle.double.specs.Outcome.{Fixes}
+use Rattle.refusal.specs.Outcome.{Fixes}
 use Rattle.double.proofs.Laws.Digits.{dvd-lower, size-gt, rep-dvd}
 use Rattle.double.proofs.Laws.Units.{Real, Parts, mag-rep}
 use Rattle.double.proofs.Laws.Compare.{lt-is, le-is, eq-is}
@@ -135,12 +134,6 @@ accepted-small (inf false) t h = refl
 accepted-small (fin s m e) t h = finite-small s m e t h
 
 -- ---- what the rule means, over the reach k
-pub accepted-finite : (k : ℕ) (x : Float) → acceptedWithin k x ≡ true → T (finite x)
-unfolding acceptedWithin
-accepted-finite k nan h = absurd (subst T (sym h) tt)
-accepted-finite k (inf s) h = absurd (subst T (sym h) tt)
-accepted-finite k (fin s m e) h = tt
-
 pub accepted-real : (k : ℕ) (x : Float) → T (fits binary64 x) → acceptedWithin k x ≡ true → Real binary64 x
 unfolding acceptedWithin
 accepted-real k nan t h = absurd (subst T (sym h) tt)

@@ -7,9 +7,9 @@ use mathlib.Core.List.{List, _++_}
 use native.Mathlib.Omega.{arith}
 use lib.ListN.{length, take, drop}
 use lib.Seq.{take-append-seam, drop-append-seam}
-use Rattle.double.specs.Outcome.{Outcome, answers, refuses}
-use Rattle.double.specs.declared.refusal.Refusal.{Refusal}
-use Rattle.track.proofs.Laws.Judged.{also-answered}
+use Rattle.refusal.specs.Outcome.{Outcome, answers, refuses}
+use Rattle.refusal.specs.declared.Refusal.{Refusal}
+use Rattle.refusal.proofs.Laws.Judged.{also-answered}
 use Rattle.report.specs.Zone.{zoneFileOf, JudgeSays}
 use Rattle.report.specs.Report.{releasesOf, Told, releases, refusedZone, refusedReleases, ofReleases, reportOf}
 use Rattle.report.specs.Report.{numberSaid, lentAfter, ReportSays}

@@ -8,11 +8,12 @@ use native.Mathlib.Omega.{arith}
 use lib.ListN.{length, take, drop, getD, set, length-set}
 use lib.Seq.{append-snoc, take-suc, drop-cons, set-at, take-all, length-take-le}
 use lib.Ieee.{Float}
-use Rattle.double.specs.Outcome.{answers, refuses}
-use Rattle.double.specs.declared.refusal.Refusal.{Refusal}
+use Rattle.refusal.specs.Outcome.{answers, refuses}
+use Rattle.refusal.specs.declared.Refusal.{Refusal}
 use Rattle.point.specs.declared.Point.{Point}
 use Rattle.geometry.specs.Side.{Accepted}
-use Rattle.geometry.specs.Zone.{Lies, outside, border, inside, placeNumber, placeOf, edgesOf, cornersOf, cornerAt}
+use Rattle.geometry.specs.Zone.{pointsOf, placeIn, cornerAt}
+use Rattle.ground.specs.Zone.{Lies, outside, border, inside, placeNumber}
 use Rattle.geometry.specs.Zone.{placeSaid, zoneSaid, zoneOf}
 use Rattle.geometry.specs.declared.answer.Place.{Place}
 use Rattle.geometry.specs.declared.answer.Zone.{Zone}
@@ -20,26 +21,27 @@ use Rattle.geometry.specs.declared.answer.Zone.the-variants.{At, Refused}
 use Rattle.geometry.proofs.Laws.Corners.{corners-count, corners-entry}
 use Rattle.geometry.proofs.Laws.Answered.{zoned-answers}
 use Rattle.track.specs.Write.{AllAccepted}
-use Rattle.report.specs.Report.{IsZone, codeOf, codesOf, codesThen}
+use Rattle.report.specs.Report.{codeOf, codesOf}
+use Rattle.report.specs.Parts.{IsZone, codesThen}
 
 -- ---- one release
 module _ (corners : List Float) (p : Point) (z : Zone) (zoned : IsZone corners) (accepted : Accepted p)
     (s : zoneSaid z ≡ zoneOf corners p) where
-  placed : zoneSaid z ≡ answers (placeOf (edgesOf (cornersOf corners)) p)
+  placed : zoneSaid z ≡ answers (placeIn corners p)
   placed = s ∙ zoned-answers corners (length corners / 2) p zoned accepted
 
   pub code-place : (place : Place) → z ≡ At place → placeNumber (placeSaid place) ≡ codeOf corners p
   unfolding zoneSaid codeOf
   code-place place e =
-      let at : answers (placeSaid place) ≡ answers (placeOf (edgesOf (cornersOf corners)) p) = ap zoneSaid (sym e) ∙ placed in
-      let same : placeSaid place ≡ placeOf (edgesOf (cornersOf corners)) p = cc in
+      let at : answers (placeSaid place) ≡ answers (placeIn corners p) = ap zoneSaid (sym e) ∙ placed in
+      let same : placeSaid place ≡ placeIn corners p = cc in
       ap placeNumber same
 
   -- a judged zone refuses no accepted point
   pub code-never : (r : Refusal) → z ≡ Refused r → ⊥
   unfolding zoneSaid
   code-never r e =
-      let at : refuses (r .number) (r .place) ≡ answers (placeOf (edgesOf (cornersOf corners)) p) = ap zoneSaid (sym e) ∙ placed in
+      let at : refuses (r .number) (r .place) ≡ answers (placeIn corners p) = ap zoneSaid (sym e) ∙ placed in
       let no : _≡_ {A = ℕ} 0 1 = cc in
       omega arith
 
@@ -48,9 +50,9 @@ pub code-zone : (corners : List Float) (p : Point) (lies : Lies) → IsZone corn
     → zoneOf corners p ≡ answers lies → codeOf corners p ≡ placeNumber lies
 unfolding codeOf
 code-zone corners p lies zoned accepted e =
-    let at : answers lies ≡ answers (placeOf (edgesOf (cornersOf corners)) p) = sym e
+    let at : answers lies ≡ answers (placeIn corners p) = sym e
     ∙ zoned-answers corners (length corners / 2) p zoned accepted in
-    let same : lies ≡ placeOf (edgesOf (cornersOf corners)) p = cc in
+    let same : lies ≡ placeIn corners p = cc in
     sym (ap placeNumber same)
 
 -- 0, 1 or 2
@@ -73,14 +75,14 @@ codes-entry corners (p ∷ ps) zero other h = refl
 codes-entry corners (p ∷ ps) (suc k) other h = codes-entry corners ps k other (omega arith)
 
 -- a code for each release, which is its own
-pub codes-length : (corners points : List Float) → length (codesOf corners (cornersOf points)) ≡ length points / 2
-codes-length corners points = codes-count corners (cornersOf points) ∙ corners-count points
+pub codes-length : (corners points : List Float) → length (codesOf corners (pointsOf points)) ≡ length points / 2
+codes-length corners points = codes-count corners (pointsOf points) ∙ corners-count points
 
 pub codes-at : (corners points : List Float) (k : ℕ) → k < length points / 2
-    → getD (codesOf corners (cornersOf points)) k 0 ≡ codeOf corners (cornerAt points k)
+    → getD (codesOf corners (pointsOf points)) k 0 ≡ codeOf corners (cornerAt points k)
 codes-at corners points k h =
-    let within : k < length (cornersOf points) = omega (arith, corners-count points) in
-    codes-entry corners (cornersOf points) k (cornerAt points k) within
+    let within : k < length (pointsOf points) = omega (arith, corners-count points) in
+    codes-entry corners (pointsOf points) k (cornerAt points k) within
     ∙ ap (codeOf corners) (corners-entry points k (cornerAt points k) h)
 
 -- ---- the codes as they are written
@@ -91,14 +93,14 @@ accepted-at points i all h = record { x = all (2 * i) (omega arith); y = all (2 
 pub record Coding (corners points : List Float) (lent codes : List ℕ) (i : ℕ) : Type 0 where
   pub few : i ≤ length points / 2
   pub len : length codes ≡ length lent
-  pub all : codes ≡ take i (codesOf corners (cornersOf points)) ++ drop i lent
+  pub all : codes ≡ take i (codesOf corners (pointsOf points)) ++ drop i lent
 
 pub coding-start : (corners points : List Float) (lent : List ℕ) → Coding corners points lent lent 0
 coding-start corners points lent = record { few = omega arith; len = refl; all = refl }
 
 module _ (corners points : List Float) (lent codes : List ℕ) (i : ℕ) (p : Coding corners points lent codes i) where
   list : List ℕ
-  list = codesOf corners (cornersOf points)
+  list = codesOf corners (pointsOf points)
 
   pub coding-turn : i < length points / 2 → i < length lent → (v : ℕ) → v ≡ codeOf corners (cornerAt points i)
       → Coding corners points lent (set codes i v) (i + 1)

@@ -10,18 +10,21 @@ use borrow.Author.Tests.{le-leb, lt-leb, leb-true}
 use lib.Dec.{T, leb}
 use lib.ListN.{length, take, drop, getD}
 use lib.Ieee.{Float}
-use Rattle.double.specs.Outcome.{Outcome, answers, refuses, Fixes, noRoom}
-use Rattle.double.specs.declared.refusal.Refusal.{Refusal}
-use Rattle.geometry.specs.Zone.{Lies, placeNumber, cornersOf, cornerAt, zoneOf, placeOf, edgesOf}
+use Rattle.refusal.specs.Outcome.{Outcome, answers, refuses, Fixes, noRoom}
+use Rattle.refusal.specs.declared.Refusal.{Refusal}
+use Rattle.geometry.specs.Zone.{pointsOf, placeIn, cornerAt, zoneOf}
+use Rattle.ground.specs.Zone.{Lies, placeNumber}
 use Rattle.geometry.proofs.Laws.Answered.{zoned-answers}
 use Rattle.track.specs.Number.{Bytes}
 use Rattle.track.specs.File.{limit, mostBytes}
-use Rattle.track.proofs.Laws.Judged.{also-answers, also-refuses, require-holds, require-fails, also-answered, require-answered}
+use Rattle.refusal.proofs.Laws.Judged.{also-answers, also-refuses, require-holds, require-fails, also-answered, require-answered}
 use Rattle.track.proofs.Laws.Refusals.{Only, only-answers, only-also, only-require-held, isReaders, read-only}
 use Rattle.track.proofs.Laws.Points.{PointList, read-points, Held}
-use Rattle.report.specs.Zone.{fileHolds, zoneFileOf, JudgedHeld}
+use Rattle.report.specs.Zone.{fileHolds, zoneFileOf}
+use Rattle.report.specs.Parts.{JudgedHeld}
 use Rattle.report.specs.Report.{codesOf, releasesOf, Told, releases, refusedZone, refusedReleases, ofReleases, reportOf}
-use Rattle.report.specs.Report.{numberSaid, lentAfter, reportSaid, Tells, ReportSays, CodedSays, codesThen}
+use Rattle.report.specs.Report.{numberSaid, lentAfter, reportSaid, Tells, ReportSays}
+use Rattle.report.specs.Parts.{CodedSays, codesThen}
 use Rattle.report.specs.declared.answer.Judged.the-variants.{Corners, Refused}
 use Rattle.report.specs.declared.answer.Report.{Report}
 use Rattle.report.specs.declared.answer.Report.the-variants.{Releases, RefusedZone, RefusedReleases}
@@ -72,10 +75,10 @@ module _ (corners : List Float) (bytes lent : List ℕ) where
     told-codes l codes e =
         let points = take (2 * n) left in
         let enough : length points / 2 ≤ length lent = omega (arith, half) in
-        tells-codes (toldOf corners bytes lent) lent (codesOf corners (cornersOf points)) codes n
+        tells-codes (toldOf corners bytes lent) lent (codesOf corners (pointsOf points)) codes n
         (ap ofReleases (also-answers _ (h .read) ∙ require-holds noRoom 0 _ (le-leb _ _ enough)))
         (codes-length corners points ∙ half)
-        (e ∙ ap (λ (k : ℕ). codesOf corners (cornersOf points) ++ drop k lent) half)
+        (e ∙ ap (λ (k : ℕ). codesOf corners (pointsOf points) ++ drop k lent) half)
 
 -- ---- what is told of both files
 -- The zone is judged first: its refusal is told whatever the release file and the room are.
@@ -153,7 +156,7 @@ pub record Reported (zone bytes codes : List ℕ) : Type 0 where
       → (lies : Lies) × (zoneOf corners (cornerAt points k) ≡ answers lies) × (getD codes k 0 ≡ placeNumber lies)
 
 reported : (zone bytes codes : List ℕ) (corners points : List Float) → zoneFileOf zone ≡ answers corners
-    → fileHolds bytes ≡ answers points → codesOf corners (cornersOf points) ≡ codes → Reported zone bytes codes
+    → fileHolds bytes ≡ answers points → codesOf corners (pointsOf points) ≡ codes → Reported zone bytes codes
 reported zone bytes codes corners points z r list = record {
   corners = corners;
   points = points;
@@ -175,7 +178,7 @@ reported zone bytes codes corners points z r list = record {
     place k l =
         let zoned = zone-file-zoned zone corners z in
         let here = accepted-at points k (p .good) l in
-        let lies = placeOf (edgesOf (cornersOf corners)) (cornerAt points k) in
+        let lies = placeIn corners (cornerAt points k) in
         let is = zoned-answers corners (length corners / 2) (cornerAt points k) zoned here in (
           lies,
           is,
@@ -190,7 +193,7 @@ report-releases zone bytes room codes e =
     (z .0, z .1, releases-answered (releasesOf (z .0) bytes room) codes (sym (report-judged zone bytes room (z .0) (z .1)) ∙ e))
 
 releases-list : (corners : List Float) (bytes : List ℕ) (room : ℕ) (codes : List ℕ) → releasesOf corners bytes room ≡ answers codes
-    → (points : List Float) × (fileHolds bytes ≡ answers points) × (codesOf corners (cornersOf points) ≡ codes)
+    → (points : List Float) × (fileHolds bytes ≡ answers points) × (codesOf corners (pointsOf points) ≡ codes)
 unfolding releasesOf
 releases-list corners bytes room codes e =
     let a = also-answered (fileHolds bytes) _ e in
@@ -203,7 +206,7 @@ unfolding releasesOf
 releases-room corners bytes room codes e =
     let a = also-answered (fileHolds bytes) _ e in
     let r = require-answered (leb (length (a .0) / 2) room) noRoom 0 _ (a .2) in
-    let list : codesOf corners (cornersOf (a .0)) ≡ codes = cc (r .1) in
+    let list : codesOf corners (pointsOf (a .0)) ≡ codes = cc (r .1) in
     omega (arith, leb-true (length (a .0) / 2) room (r .0), ap length list, codes-length corners (a .0))
 
 -- they have room

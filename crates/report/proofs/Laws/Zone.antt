@@ -7,28 +7,29 @@ use mathlib.Core.Bool.{Bool, true, false, _||_}
 use mathlib.Core.List.{List}
 use native.Mathlib.Omega.{arith}
 use borrow.Author.Tests.{le-leb, lt-leb, leb-true, leb-false}
-use lib.Dec.{T, eqb, leb}
+use lib.Dec.{eqb, leb}
 use lib.ListN.{length, take}
 use lib.Ieee.{Float}
-use Rattle.double.specs.Outcome.{Outcome, answers, refuses, Fixes, tooMany, tooFewCorners}
-use Rattle.double.specs.declared.refusal.Refusal.{Refusal}
-use Rattle.double.proofs.Laws.Outcome.{refuses-once}
+use Rattle.refusal.specs.Outcome.{Outcome, answers, refuses, Fixes, tooMany, tooFewCorners}
+use Rattle.refusal.specs.declared.Refusal.{Refusal}
+use Rattle.refusal.proofs.Laws.Outcome.{refuses-once}
 use Rattle.point.specs.declared.Point.{Point}
 use Rattle.geometry.specs.Side.{Accepted}
 use Rattle.geometry.specs.Zone.{fewest, most, Zoned, zoneOf}
 use Rattle.geometry.proofs.Laws.Zone.{zone-small, zone-large}
 use Rattle.geometry.proofs.Laws.Answered.{zoned-answers}
-use Rattle.track.specs.Judged.{require, also}
+use Rattle.refusal.specs.Judged.{require, also}
 use Rattle.track.specs.Number.{Bytes}
 use Rattle.track.specs.File.{limit, mostBytes}
 use Rattle.track.specs.Read.{readOf, pointsSaid, said, ReadSays}
 use Rattle.track.specs.declared.answer.Reading.{Reading}
 use Rattle.track.specs.declared.answer.Reading.the-variants.{Points, Refused as Unread}
-use Rattle.track.proofs.Laws.Judged.{also-answers, also-refuses, require-holds, require-fails, also-answered, require-answered}
+use Rattle.refusal.proofs.Laws.Judged.{also-answers, also-refuses, require-holds, require-fails, also-answered, require-answered}
 use Rattle.track.proofs.Laws.Refusals.{Only, only-answers, only-also, only-require, isReaders, read-only}
 use Rattle.track.proofs.Laws.Points.{PointList, read-points, Held, read-held}
 use Rattle.track.proofs.Laws.Calls.{read-enough}
-use Rattle.report.specs.Zone.{fileHolds, zoneFileOf, judgedSaid, JudgeSays, JudgedHeld}
+use Rattle.report.specs.Zone.{fileHolds, zoneFileOf, judgedSaid, JudgeSays}
+use Rattle.report.specs.Parts.{JudgedHeld}
 use Rattle.report.specs.declared.answer.Judged.{Judged}
 use Rattle.report.specs.declared.answer.Judged.the-variants.{Corners, Refused}
 
@@ -206,16 +207,6 @@ unfolding zoneFileOf
 zone-file-only bytes =
     only-also isZones (fileHolds bytes) _ (readers-too (fileHolds bytes) (read-only limit bytes (2 * limit) (omega arith))) (λ xs e.
     rules-too (judged xs) (judged-only xs))
-
--- Any other than 4 and 1 is the reader's own: a 3 has the offset of its number, and not a corner's place.
-pub zone-file-reader : (bytes : List ℕ) (number place : ℕ) → zoneFileOf bytes ≡ refuses number place → isRules number ≡ false
-    → fileHolds bytes ≡ refuses number place
-unfolding zoneFileOf
-zone-file-reader bytes number place e h = go (fileHolds bytes) e
-  where
-    go : (o : Outcome (List Float)) → also o judged ≡ refuses number place → o ≡ refuses number place
-    go (answers xs) f = absurd (subst T (sym (judged-only xs number place f) ∙ h) tt)
-    go (refuses n p) f = f
 
 -- ---- the first bytes of a file
 -- "at most 10,243 bytes of each, which can not alter the first refusal"

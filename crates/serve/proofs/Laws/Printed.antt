@@ -3,7 +3,7 @@
 use Prim.Native.Nat.{ℕ}
 use mathlib.Core.Path.{_≡_, refl, sym, ap}
 use mathlib.Core.List.{List, [], _∷_}
-use Rattle.double.specs.declared.refusal.Refusal.{Refusal}
+use Rattle.refusal.specs.declared.Refusal.{Refusal}
 use Rattle.report.specs.Zone.{zoneFileOf, JudgeSays}
 use Rattle.report.specs.Report.{releases, refusedZone, refusedReleases, reportOf}
 use Rattle.report.specs.declared.answer.Judged.the-variants.{Refused}

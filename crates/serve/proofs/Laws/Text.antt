@@ -9,11 +9,12 @@ use native.Mathlib.Numerals.{add-one}
 use native.Mathlib.Omega.{arith}
 use lib.ListN.{length, take, drop, getD, set, length-append, length-drop, drop-of-length-le}
 use lib.Seq.{paste, paste-zero, paste-suc, length-paste, take-paste, take-all, take-at, drop-cons}
-use Rattle.double.specs.declared.refusal.Refusal.{Refusal}
+use Rattle.refusal.specs.declared.Refusal.{Refusal}
 use Rattle.report.specs.Report.{Told, releases, refusedZone, refusedReleases, reportOf, Tells, ReportSays}
 use Rattle.report.specs.declared.answer.Report.{Report}
 use Rattle.report.specs.declared.answer.Report.the-variants.{Releases, RefusedZone, RefusedReleases}
-use Rattle.serve.specs.Text.{ascii, placeText, lineText, linesFrom, headerText, refusalText, textOf, Puts}
+use Rattle.serve.specs.Text.{ascii, placeText, lineText, linesFrom, headerText, refusalText, textOf}
+use Rattle.serve.specs.Parts.{Puts}
 
 -- ---- the bytes of a text
 -- i of them are put

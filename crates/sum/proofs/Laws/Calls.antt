@@ -13,16 +13,18 @@ use lib.IntN.{pos, _+ℤ_}
 use lib.ListN.{length}
 use lib.Ieee.{Float, nan, binary64, fits}
 use Rattle.whole.specs.Sign.{sgn}
-use Rattle.double.specs.Outcome.{Outcome, answers, refuses}
+use Rattle.whole.proofs.Laws.Order.{lt-or-le}
+use Rattle.refusal.specs.Outcome.{Outcome, answers, refuses}
 use Rattle.double.specs.Worth.{worth, AllDoubles}
-use Rattle.double.specs.declared.refusal.Refusal.{Refusal}
-use Rattle.double.proofs.Laws.Outcome.{refuses-once, never, no-refusal}
+use Rattle.refusal.specs.declared.Refusal.{Refusal}
+use Rattle.refusal.specs.Judged.{leaves}
+use Rattle.refusal.proofs.Laws.Outcome.{refuses-once, never, no-refusal}
 use Rattle.sum.specs.Limit.{limit}
 use Rattle.sum.specs.Refused.{checked, RefusedAs, Accepted}
 use Rattle.sum.specs.Total.{totalOf, signNumber}
 use Rattle.sum.specs.Ceiling.{ceilingOf, ceilingSaid, ceilingAnswer, CeilingSays}
 use Rattle.sum.specs.Plain.{plainSaid, plainOf, PlainSays}
-use Rattle.sum.specs.Run.{ranFrom, after, Settles, mostBudget, Decision, sign, undecided, decision, Told, told, said, runOf, leftOf, kept, RunSays}
+use Rattle.sum.specs.Run.{ranFrom, after, Settles, mostBudget, Decision, sign, undecided, decision, Told, told, said, runOf, leftOf, RunSays}
 use Rattle.sum.specs.declared.answer.Sign.{Sign}
 use Rattle.sum.specs.declared.answer.Verdict.{Verdict}
 use Rattle.sum.specs.declared.answer.Verdict.the-variants.{Decided, Undecided}
@@ -35,11 +37,11 @@ use Rattle.sum.specs.declared.answer.Plain.{Plain}
 use Rattle.sum.specs.declared.answer.Plain.the-variants.{Signed, Refused as PlainRefused}
 use Rattle.sum.proofs.Laws.Entries.{AllReal, all-of, real-of, real-finite}
 use Rattle.sum.proofs.Laws.Refused.{checked-accepted, checked-answered, checked-refused, refused-checked}
-use Rattle.sum.proofs.Laws.Running.{sign-once}
+use Rattle.sum.proofs.Laws.Look.{sign-once}
 use Rattle.sum.proofs.Laws.Sign.{ran-total, ran-sign}
 use Rattle.sum.proofs.Laws.Ceiling.{ceiling-most}
 use Rattle.sum.proofs.Laws.Descent.{ceiling-steps, ceiling-sign}
-use Rattle.sum.proofs.Laws.Settled.{lt-or-le, settles, settled-enough, settled-short, settled-steps, settled-left}
+use Rattle.sum.proofs.Laws.Settled.{settles, settled-enough, settled-short, settled-steps, settled-left}
 
 -- ---- which lists are refused
 -- an answer that is refused where the list is, by its number and place
@@ -83,7 +85,7 @@ plain-refused xs r p = refused-as plainSaid PlainRefused xs (sgn (totalOf xs)) (
 -- "A refused call writes to none of the memory it was lent."
 pub run-refused-leaves : (xs ys : List Float) (b : ℕ) (q : Refusal) → RunSays xs b (Refused q) ys → ys ≡ xs
 unfolding said leftOf
-run-refused-leaves xs ys b q p = p .left ∙ sym (ap (λ (o : Outcome Told). kept o xs (ranFrom b 0 xs .left)) (p .answer))
+run-refused-leaves xs ys b q p = p .left ∙ sym (ap (λ (o : Outcome Told). leaves o (λ _. ranFrom b 0 xs .left) xs) (p .answer))
 
 -- every other list is answered
 module _ (xs : List Float) (a : Accepted xs) where
@@ -131,7 +133,7 @@ module _ (xs ys : List Float) (b : ℕ) (r : Ran) (d : AllDoubles xs) (p : RunSa
 
   left-is : ys ≡ ranFrom b 0 xs .left
   unfolding leftOf said
-  left-is = p .left ∙ sym (ap (λ (o : Outcome Told). kept o xs (ranFrom b 0 xs .left)) (p .answer))
+  left-is = p .left ∙ sym (ap (λ (o : Outcome Told). leaves o (λ _. ranFrom b 0 xs .left) xs) (p .answer))
 
   -- "the exact total is the same"
   pub run-total : totalOf ys ≡ totalOf xs

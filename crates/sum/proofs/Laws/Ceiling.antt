@@ -15,16 +15,16 @@ use lib.Pow.{pow-add, pow-pos, pow-lt, pow-mono, shr-lt, shr-le}
 use lib.Ieee.{Float, nan, binary64, size}
 use lib.Ieee.Digits.{size-lt, size-reaches, size-le}
 use Rattle.double.specs.Worth.{mag}
-use Rattle.double.specs.Outcome.{answers, Fixes}
-use Rattle.double.specs.declared.refusal.Refusal.{Refusal}
+use Rattle.refusal.specs.Outcome.{answers, Fixes}
+use Rattle.refusal.specs.declared.Refusal.{Refusal}
 use Rattle.double.specs.declared.answer.Parts.{Parts}
 use Rattle.double.proofs.Laws.Digits.{size-gt, size-mono, size-scale}
 use Rattle.double.proofs.Laws.Units.{Real, mag-lt}
 use Rattle.double.proofs.Laws.Sized.{Sized}
 use Rattle.double.proofs.Laws.Apart.{Means}
-use Rattle.double.proofs.Laws.Outcome.{refuses-once}
+use Rattle.refusal.proofs.Laws.Outcome.{refuses-once}
 use Rattle.sum.specs.Limit.{limit, divisor}
-use Rattle.sum.specs.Refused.{found, faultOf}
+use Rattle.sum.specs.Parts.{found, faultOf}
 use Rattle.sum.specs.Ceiling.{digits, grainOf, roundUp, weightOf, ceilingOf, ceilingSaid, ceilingAnswer, CeilingSays}
 use Rattle.sum.specs.declared.fault.Fault.the-variants.{None, At}
 use Rattle.sum.specs.declared.answer.Ceiling.{Ceiling}

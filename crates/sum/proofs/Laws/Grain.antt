@@ -20,9 +20,9 @@ use lib.Ieee.{Float, nan, inf, fin, binary64}
 use lib.Ieee.Scale.{finite}
 use borrow.Author.Tests.{eqb-true}
 use Rattle.double.specs.Worth.{mag}
-use Rattle.double.specs.Outcome.{answers}
+use Rattle.refusal.specs.Outcome.{answers}
 use Rattle.double.specs.Apart.{said, apartOf}
-use Rattle.double.specs.declared.refusal.Refusal.{Refusal}
+use Rattle.refusal.specs.declared.Refusal.{Refusal}
 use Rattle.double.specs.declared.answer.Parts.{Parts}
 use Rattle.double.specs.declared.answer.Taken.{Taken}
 use Rattle.double.specs.declared.answer.Taken.the-variants.{Apart, Refused}

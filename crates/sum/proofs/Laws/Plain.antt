@@ -20,15 +20,15 @@ use Rattle.whole.specs.Sign.{sgn}
 use Rattle.whole.proofs.Laws.Parts.{up, dn, up-neg, dn-neg, add-parts, ≡-parts}
 use Rattle.whole.proofs.Laws.Sign.{sgn-nat-positive, sgn-nat-zero, sgn-nat-negative}
 use Rattle.double.specs.Worth.{worth}
-use Rattle.double.specs.Outcome.{Fixes}
+use Rattle.refusal.specs.Outcome.{Fixes}
 use Rattle.double.specs.declared.answer.Parts.{Parts}
 use Rattle.double.proofs.Laws.Apart.{Means}
-use Rattle.double.proofs.Laws.Outcome.{refuses-once}
+use Rattle.refusal.proofs.Laws.Outcome.{refuses-once}
 use Rattle.sum.specs.Limit.{limit}
 use Rattle.sum.specs.Total.{totalOf, signNumber}
 use Rattle.sum.specs.Plain.{plainSaid, PlainSays}
 use Rattle.sum.specs.Words.{base, count, modulus, half, valueOf, Changed, unitsOf, addsOf, takesOf, signHeld}
-use Rattle.sum.proofs.Laws.Running.{sign-once}
+use Rattle.sum.proofs.Laws.Look.{sign-once}
 use Rattle.sum.proofs.Laws.Words.{past}
 use Rattle.sum.specs.declared.answer.Sign.the-variants.{Minus, Zero, Plus}
 use Rattle.sum.specs.declared.answer.Plain.{Plain}

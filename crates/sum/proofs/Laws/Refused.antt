@@ -1,25 +1,26 @@
 -- Which lists are refused. In order: a double is finite by two comparisons; the two tests in their order; a list that is not refused; with
 -- which number and place a list is refused, both ways; what the end of the search for a fault says of every answer. Assumes nothing.
 use mathlib.Core.Path.{_≡_, refl, sym, ap₂, _∙_, subst}
-use mathlib.Core.Bool.{Bool, true, false, cond}
+use mathlib.Core.Bool.{true, false}
 use mathlib.Core.List.{List, [], _∷_}
 use mathlib.Core.Logic.{inl, inr}
 use Prim.Native.Nat.{ℕ, zero, suc, _≤_, _<_}
 use native.Mathlib.Nat.{zero-add}
 use native.Mathlib.Omega.{arith}
-use lib.Dec.{T, ltb}
+use lib.Dec.{T, leb}
 use lib.ListN.{length}
 use lib.Ieee.{Float, nan, inf, fin, lt}
 use lib.Ieee.Bits.{is-true}
 use lib.Ieee.Scale.{finite}
-use borrow.Author.Tests.{lt-ltb, le-ltb, ltb-true, ltb-false}
-use Rattle.double.specs.declared.refusal.Refusal.{Refusal}
-use Rattle.double.specs.Outcome.{answers, refuses, tooMany, notFinite}
-use Rattle.double.specs.Search.{AllPass, IsFirst}
-use Rattle.double.proofs.Laws.Outcome.{no-refusal}
-use Rattle.double.proofs.Laws.Search.{passing-whole, passing-answered, passing-first, passing-refused}
+use borrow.Author.Tests.{le-leb, lt-leb, leb-true, leb-false}
+use Rattle.refusal.specs.declared.Refusal.{Refusal}
+use Rattle.refusal.specs.Outcome.{answers, refuses, tooMany, notFinite}
+use Rattle.refusal.specs.Search.{AllPass, IsFirst}
+use Rattle.refusal.proofs.Laws.Judged.{require-holds, require-fails, require-answered, require-refused}
+use Rattle.refusal.proofs.Laws.Search.{passing-whole, passing-answered, passing-first, passing-refused}
 use Rattle.sum.specs.Limit.{limit}
-use Rattle.sum.specs.Refused.{checkedFrom, checked, RefusedAs, AllFinite, Accepted, found, faultOf}
+use Rattle.sum.specs.Refused.{checkedFrom, checked, RefusedAs, AllFinite, Accepted}
+use Rattle.sum.specs.Parts.{found, faultOf}
 use Rattle.sum.specs.declared.fault.Fault.the-variants.{None, At}
 
 -- ---- finite: below infinity and above minus infinity
@@ -51,11 +52,11 @@ pass-finite (x ∷ xs) h = (subst T (sym (h 0 (omega arith))) tt, pass-finite xs
 module _ {A : Type 0} (xs : List Float) (answer : A) where
   pub checked-long : limit < length xs → checked xs answer ≡ refuses tooMany 0
   unfolding checked
-  checked-long h = rw (lt-ltb limit (length xs) h)
+  checked-long h = require-fails tooMany 0 (λ _. checkedFrom 0 xs answer) (lt-leb (length xs) limit h)
 
   pub checked-short : length xs ≤ limit → checked xs answer ≡ checkedFrom 0 xs answer
   unfolding checked
-  checked-short h = rw (le-ltb limit (length xs) h)
+  checked-short h = require-holds tooMany 0 (λ _. checkedFrom 0 xs answer) (le-leb (length xs) limit h)
 
   -- ---- a finite list within the limit is not refused, and no other is answered
   pub checked-accepted : Accepted xs → checked xs answer ≡ answers answer
@@ -63,14 +64,10 @@ module _ {A : Type 0} (xs : List Float) (answer : A) where
 
   pub checked-answered : {given : A} → checked xs answer ≡ answers given → Accepted xs × (answer ≡ given)
   unfolding checked
-  checked-answered {given} e = go (ltb limit (length xs)) refl e
-    where
-      go : (b : Bool) → ltb limit (length xs) ≡ b → cond b (refuses tooMany 0) (checkedFrom 0 xs answer) ≡ answers given
-          → Accepted xs × (answer ≡ given)
-      go true t e = no-refusal e
-      go false t e =
-          let (all, same) = passing-answered finite notFinite nan answer 0 xs given e in
-          (record { short = ltb-false limit (length xs) t; finite = pass-finite xs all }, same)
+  checked-answered {given} e =
+      let (short, rest) = require-answered (leb (length xs) limit) tooMany 0 (λ _. checkedFrom 0 xs answer) e in
+      let (all, same) = passing-answered finite notFinite nan answer 0 xs given rest in
+      (record { short = leb-true (length xs) limit short; finite = pass-finite xs all }, same)
 
   -- ---- with which number and place a list is refused
   pub checked-refused : (n p : ℕ) → RefusedAs xs n p → checked xs answer ≡ refuses n p
@@ -81,13 +78,12 @@ module _ {A : Type 0} (xs : List Float) (answer : A) where
 
   pub refused-checked : (n p : ℕ) → checked xs answer ≡ refuses n p → RefusedAs xs n p
   unfolding checked
-  refused-checked n p e = go (ltb limit (length xs)) refl e
-    where
-      go : (b : Bool) → ltb limit (length xs) ≡ b → cond b (refuses tooMany 0) (checkedFrom 0 xs answer) ≡ refuses n p → RefusedAs xs n p
-      go true t e = inl (ltb-true limit (length xs) t, cc, cc)
-      go false t e =
-          let (same, (j, place, first)) = passing-refused finite notFinite nan answer 0 xs n p e in
-          inr (ltb-false limit (length xs) t, same, subst (IsFirst finite nan xs) (sym (place ∙ zero-add j)) first)
+  refused-checked n p e = elim (require-refused (leb (length xs) limit) tooMany 0 (λ _. checkedFrom 0 xs answer) e) [
+    | inl (long, number, place) ↦ inl (leb-false (length xs) limit long, number, place)
+    | inr (short, rest) ↦
+        let (same, (j, place, first)) = passing-refused finite notFinite nan answer 0 xs n p rest in
+        inr (leb-true (length xs) limit short, same, subst (IsFirst finite nan xs) (sym (place ∙ zero-add j)) first)
+  ]
 
 -- ---- what a search that is over says
 pub fault-none : (xs : List Float) → found None ≡ faultOf xs → Accepted xs

@@ -9,19 +9,20 @@ use lib.Dec.{T}
 use lib.ListN.{length}
 use lib.Ieee.{Float, nan, binary64, fits}
 use lib.Ieee.Fits.{nan-fits}
-use Rattle.double.specs.Outcome.{Outcome, answers, Fixes}
-use Rattle.double.specs.declared.refusal.Refusal.{Refusal}
-use Rattle.double.proofs.Laws.Outcome.{refuses-once}
+use Rattle.refusal.specs.Outcome.{Outcome, answers, Fixes}
+use Rattle.refusal.specs.declared.Refusal.{Refusal}
+use Rattle.refusal.specs.Judged.{leaves}
+use Rattle.refusal.proofs.Laws.Outcome.{refuses-once}
 use Rattle.sum.specs.Limit.{limit}
 use Rattle.double.specs.Worth.{AllDoubles}
-use Rattle.sum.specs.Refused.{Accepted, found, faultOf}
-use Rattle.sum.specs.Total.{signNumber}
+use Rattle.sum.specs.Refused.{Accepted}
+use Rattle.sum.specs.Parts.{found, faultOf}
 use Rattle.sum.specs.Look.{verdictOf, verdictBy, lookOf}
 use Rattle.sum.specs.Step.{stepOf}
-use Rattle.sum.specs.Run.{RanSays, RunSays, Reached, reached, ranFrom, runOf, leftOf, said, Told, told, decision, kept}
+use Rattle.sum.specs.Run.{RunSays, Reached, reached, ranFrom, runOf, leftOf, said, Told, told, decision}
+use Rattle.sum.specs.Parts.{RanSays}
 use Rattle.sum.specs.Tally.{tallyOf, lookAt, Stepping}
 use Rattle.sum.specs.declared.answer.Sign.{Sign}
-use Rattle.sum.specs.declared.answer.Sign.the-variants.{Minus, Zero, Plus}
 use Rattle.sum.specs.declared.answer.Verdict.{Verdict}
 use Rattle.sum.specs.declared.answer.Verdict.the-variants.{Decided, Undecided}
 use Rattle.sum.specs.declared.answer.Ran.{Ran}
@@ -33,6 +34,7 @@ use Rattle.sum.specs.declared.look.Look.{Look}
 use Rattle.sum.proofs.Laws.Refused.{checked-none, checked-at}
 use Rattle.sum.proofs.Laws.Entries.{AllReal, all-of, real-of, real-finite}
 use Rattle.sum.proofs.Laws.Step.{step-length, step-real}
+use Rattle.sum.proofs.Laws.Look.{sign-once}
 use Rattle.sum.proofs.Laws.Runs.{ran-decided, ran-out, ran-step}
 
 -- ---- the loop's invariant
@@ -101,7 +103,7 @@ module _ (xs : List Float) (budget : ℕ) where
   unfolding said runOf leftOf
   run-says-refused r h =
       let e = checked-at (told (ranFrom budget 0 xs .verdict) (ranFrom budget 0 xs .steps)) xs r h in
-      record { answer = sym e; left = sym (ap (λ (o : Outcome _). kept o xs (ranFrom budget 0 xs .left)) e) }
+      record { answer = sym e; left = sym (ap (λ (o : Outcome _). leaves o (λ _. ranFrom budget 0 xs .left) xs) e) }
 
   pub run-says-done : (r : Ran) (left : List Float) → found None ≡ faultOf xs → RanSays xs budget r left → RunSays xs budget (Done r) left
   unfolding said runOf leftOf
@@ -109,21 +111,10 @@ module _ (xs : List Float) (budget : ℕ) where
       let e = checked-none (told (ranFrom budget 0 xs .verdict) (ranFrom budget 0 xs .steps)) xs h in
       record {
         answer = ap₂ (λ (v : Verdict) (k : ℕ). answers (told v k)) (s .verdict) (s .steps) ∙ sym e;
-        left = s .left ∙ sym (ap (λ (o : Outcome _). kept o xs (ranFrom budget 0 xs .left)) e);
+        left = s .left ∙ sym (ap (λ (o : Outcome _). leaves o (λ _. ranFrom budget 0 xs .left) xs) e);
       }
 
 -- ---- no two results satisfy it
-pub sign-once : (a b : Sign) → signNumber a ≡ signNumber b → a ≡ b
-sign-once Minus Minus e = refl
-sign-once Minus Zero e = cc
-sign-once Minus Plus e = cc
-sign-once Zero Minus e = cc
-sign-once Zero Zero e = refl
-sign-once Zero Plus e = cc
-sign-once Plus Minus e = cc
-sign-once Plus Zero e = cc
-sign-once Plus Plus e = refl
-
 verdict-once : (v w : Verdict) → decision v ≡ decision w → v ≡ w
 verdict-once (Decided a) (Decided b) e = ap Decided (sign-once a b (cc))
 verdict-once (Decided a) Undecided e = cc

@@ -1,12 +1,10 @@
 -- A run by its turns, and by the list after n steps. In order: a turn that decides, one that the budget stops, one that steps; where a run
--- of budget b ends: after n steps, n at most b, with every list before undecided; the same read off the run's own count; undecided is
--- answered exactly where no list up to the b-th is decided; what every step keeps. Not here: which sign is answered (`Sign`), how many
--- steps are enough (`Descent`). Assumes nothing.
+-- of budget b ends: after n steps, n at most b, with every list before undecided; the same read off the run's own count; what every
+-- step keeps. Not here: which sign is answered (`Sign`), how many steps are enough (`Descent`). Assumes nothing.
 use mathlib.Core.Path.{_≡_, refl, sym, ap, _∙_, subst}
 use mathlib.Core.List.{List}
-use mathlib.Core.Logic.{_↔_, inl, inr}
 use Prim.Native.Nat.{ℕ, zero, suc, _+_, _≤_, _<_, zero-le}
-use native.Mathlib.Nat.{le-refl, zero-add, zero-lt-suc, eq-or-lt-of-le}
+use native.Mathlib.Nat.{le-refl, zero-add, zero-lt-suc}
 use native.Mathlib.Numerals.{add-one}
 use native.Mathlib.Omega.{arith}
 use lib.Ieee.{Float}
@@ -123,16 +121,6 @@ module _ (b : ℕ) (xs : List Float) where
   -- and stops undecided only where the budget is spent
   pub ran-spent : run .verdict ≡ Undecided → run .steps ≡ b
   ran-spent = own .spent
-
-  -- "Undecided is answered exactly when the rule has not decided after budget steps."
-  pub ran-undecided : (run .verdict ≡ Undecided) ↔ ((i : ℕ) → i ≤ b → verdictOf (after i xs) ≡ Undecided)
-  ran-undecided = (λ e. upto (ran-spent e) (sym (own .look) ∙ e), λ f. own .look ∙ f (run .steps) (own .most))
-    where
-      upto : run .steps ≡ b → verdictOf (after (run .steps) xs) ≡ Undecided → (i : ℕ) → i ≤ b → verdictOf (after i xs) ≡ Undecided
-      upto z e i h = elim (eq-or-lt-of-le h) [
-        | inl g ↦ ap (λ (n : ℕ). verdictOf (after n xs)) (g ∙ sym z) ∙ e
-        | inr l ↦ ran-before i (subst (λ (n : ℕ). i < n) (sym z) l)
-      ]
 
 -- ---- what every step keeps, a run keeps; P may count the steps
 after-keeps : (P : ℕ → List Float → Type 0)

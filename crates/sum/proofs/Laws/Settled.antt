@@ -3,12 +3,13 @@
 -- after so many steps, and decides exactly if b is no less. Assumes nothing.
 use mathlib.Core.Path.{_≡_, sym, ap, _∙_, subst}
 use mathlib.Core.List.{List}
-use mathlib.Core.Logic.{_⊎_, inl, inr}
-use Prim.Native.Nat.{ℕ, _-_, _≤_, _<_, min}
-use native.Mathlib.Nat.{le-refl, le-antisymm, eq-zero-or-pos}
+use mathlib.Core.Logic.{inl, inr}
+use Prim.Native.Nat.{ℕ, _≤_, _<_, min}
+use native.Mathlib.Nat.{le-refl, le-antisymm}
 use native.Mathlib.Omega.{arith}
 use lib.ListN.{length}
 use lib.Ieee.{Float}
+use Rattle.whole.proofs.Laws.Order.{lt-or-le}
 use Rattle.sum.specs.Limit.{limit}
 use Rattle.sum.specs.Look.{verdictOf}
 use Rattle.sum.specs.Ceiling.{ceilingOf}
@@ -19,9 +20,6 @@ use Rattle.sum.specs.declared.answer.Verdict.the-variants.{Decided, Unde
 use Rattle.sum.proofs.Laws.Entries.{AllReal}
 use Rattle.sum.proofs.Laws.Runs.{ran-left, ran-verdict, ran-before, ran-steps-most, ran-spent}
 use Rattle.sum.proofs.Laws.Descent.{ceiling-steps, ceiling-enough}
-
-pub lt-or-le : (m n : ℕ) → (m < n) ⊎ (n ≤ m)
-lt-or-le m n = elim (eq-zero-or-pos (n - m)) [ inl e ↦ inr (omega arith) | inr h ↦ inl (omega arith) ]
 
 -- a list is decided or not
 not-both : {A : Type 0} {v : Verdict} {s : Sign} → v ≡ Decided s → v ≡ Undecided → A

@@ -11,7 +11,8 @@ use lib.Ieee.{Float, nan, binary64, lt, neg, add, sub}
 use Rattle.double.proofs.Laws.Step as Exact
 use Rattle.double.specs.Worth.{plus0}
 use Rattle.sum.specs.Look.{extremeOf, indexOf}
-use Rattle.sum.specs.Step.{Opposed, ExactSum, rounded, roundoff, stepOf}
+use Rattle.sum.specs.Step.{rounded, roundoff, stepOf}
+use Rattle.sum.specs.Parts.{Opposed, ExactSum}
 use Rattle.sum.specs.Tally.{Stepping}
 use Rattle.sum.specs.declared.look.Tally.{Tally}
 use Rattle.sum.proofs.Laws.Entries.{AllReal, all-of, real-of}

@@ -8,10 +8,10 @@ use native.Mathlib.Omega.{arith}
 use lib.ListN.{length, take, drop}
 use lib.Seq.{take-append-seam, drop-append-seam}
 use lib.Ieee.{Float}
-use Rattle.double.specs.Outcome.{Outcome, answers, refuses}
-use Rattle.double.specs.declared.refusal.Refusal.{Refusal}
+use Rattle.refusal.specs.Outcome.{Outcome, answers, refuses}
+use Rattle.refusal.specs.declared.Refusal.{Refusal}
 use Rattle.double.specs.Worth.{AllDoubles}
-use Rattle.track.specs.Judged.{filled}
+use Rattle.refusal.specs.Judged.{filled}
 use Rattle.track.specs.Number.{groupsOf, writtenOf, Bytes}
 use Rattle.track.specs.File.{limit, largest, mostBytes}
 use Rattle.track.specs.Write.{writeOf, WriteSays}
@@ -20,7 +20,7 @@ use Rattle.track.specs.declared.answer.Writing.{Writing}
 use Rattle.track.specs.declared.answer.Writing.the-variants.{Length, Refused as Unwritten}
 use Rattle.track.specs.declared.answer.Reading.{Reading}
 use Rattle.track.specs.declared.answer.Reading.the-variants.{Points, Refused as Unread}
-use Rattle.track.proofs.Laws.Judged.{also-answers, also-answered, also-refused}
+use Rattle.refusal.proofs.Laws.Judged.{also-answers, also-answered, also-refused}
 use Rattle.track.proofs.Laws.Write.{said-once as written-once}
 use Rattle.track.proofs.Laws.Read.{said-once}
 use Rattle.track.proofs.Laws.Refusals.{Faulted, read-faulted}

@@ -8,14 +8,14 @@ use borrow.Author.Tests.{lt-ltb, le-ltb}
 use lib.Dec.{T, eqb}
 use lib.Ieee.{Float, nan, inf, fin, binary64, isNan, nanBits, ofBits, ones, hid, top}
 use lib.Ieee.Bits.{nanBits-above, nanBits-is}
-use Rattle.double.specs.Outcome.{answers, refuses, notAccepted, endsEarly, notShortest}
+use Rattle.refusal.specs.Outcome.{answers, refuses, notAccepted, endsEarly, notShortest}
 use Rattle.point.specs.Accepted.{acceptedOf, acceptedWithin}
 use Rattle.track.specs.Number.{numberOf}
 use Rattle.track.specs.Difference.{restoredOf}
 use Rattle.track.specs.Coordinate.{judgedOf, coordinateOf}
 use Rattle.track.specs.declared.number.Number.{Number}
-use Rattle.track.proofs.Laws.Judged.{also-answers, also-refuses, require-holds, require-fails}
-use Rattle.track.proofs.Laws.Judged.{Each, each-answers, each-also, each-require}
+use Rattle.refusal.proofs.Laws.Judged.{also-answers, also-refuses, require-holds, require-fails}
+use Rattle.refusal.proofs.Laws.Judged.{Each, each-answers, each-also, each-require}
 use Rattle.track.proofs.Laws.Number.{number-each}
 
 -- ---- patterns of NaNs

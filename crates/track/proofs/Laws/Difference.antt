@@ -8,7 +8,7 @@ use borrow.Author.Tests.{ltb-true, ltb-false, lt-ltb, le-ltb, eq-eqb, ne-eqb, eq
 use lib.Dec.{eqb, ltb}
 use lib.IntN.{ℤ}
 use Rattle.track.specs.Difference.{difference, signed, folded, storedOf, unsigned, restoredOf}
-use Rattle.track.proofs.Laws.Judged.{cond-yes, cond-no}
+use Rattle.refusal.proofs.Laws.Judged.{cond-yes, cond-no}
 
 -- ---- stored
 -- d is the wrapped difference: with the preceding pattern it wraps to the pattern

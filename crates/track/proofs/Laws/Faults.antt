@@ -9,9 +9,9 @@ use native.Mathlib.Omega.{arith}
 use borrow.Author.Tests.{ltb-false, lt-ltb, le-ltb, eqb-true, eqb-false, eq-eqb, ne-eqb}
 use lib.Dec.{eqb, ltb}
 use lib.ListN.{length, drop, getD}
-use Rattle.double.specs.Outcome.{refuses, endsEarly, notShortest}
+use Rattle.refusal.specs.Outcome.{refuses, endsEarly, notShortest}
 use Rattle.track.specs.Number.{full, Begins, number, early, faulty, above, beginsWith, placed, numberOf}
-use Rattle.track.proofs.Laws.Judged.{cond-yes, cond-no}
+use Rattle.refusal.proofs.Laws.Judged.{cond-yes, cond-no}
 
 -- ---- in words, of the bytes from a number's first on
 -- "the top bit set on every byte but the last": so the number goes on after the first k

@@ -9,9 +9,9 @@ use borrow.Author.Tests.{le-leb, lt-leb, leb-true, leb-false}
 use lib.Dec.{leb}
 use lib.ListN.{length, take, length-take}
 use lib.Ieee.{Float, binary64, ofBits}
-use Rattle.double.specs.Outcome.{Outcome, answers, refuses, tooMany, noRoom, notAccepted, bytesAfter}
+use Rattle.refusal.specs.Outcome.{Outcome, answers, refuses, tooMany, noRoom, notAccepted, bytesAfter}
 use Rattle.point.specs.Accepted.{acceptedOf}
-use Rattle.track.specs.Judged.{require, also}
+use Rattle.refusal.specs.Judged.{require, also}
 use Rattle.track.specs.Number.{Bytes, numberOf}
 use Rattle.track.specs.Difference.{restoredOf}
 use Rattle.track.specs.File.{largest}
@@ -19,7 +19,7 @@ use Rattle.track.specs.Coordinate.{judgedOf, coordinateOf}
 use Rattle.track.specs.Read.{coordinatesOf, countedOf, readOf}
 use Rattle.track.specs.declared.number.Number.{Number}
 use Rattle.track.specs.declared.coordinate.Coordinate.{Coordinate}
-use Rattle.track.proofs.Laws.Judged.{also-answered, require-answered}
+use Rattle.refusal.proofs.Laws.Judged.{also-answered, require-answered}
 use Rattle.track.proofs.Laws.Written.{written-length, written-mono}
 use Rattle.track.proofs.Laws.Scan.{coordinates-end, coordinates-turn}
 use Rattle.track.proofs.Laws.Taken.{Read, number-read, number-near, number-first}

@@ -14,10 +14,10 @@ use mir.Val.{Fits}
 use lib.Dec.{eqb, ltb}
 use lib.ListN.{length, drop, getD, drop-of-length-le}
 use lib.Seq.{drop-cons}
-use Rattle.double.specs.Outcome.{Outcome, answers, refuses, endsEarly, notShortest}
+use Rattle.refusal.specs.Outcome.{Outcome, answers, refuses, endsEarly, notShortest}
 use Rattle.track.specs.declared.number.Number.{Number}
 use Rattle.track.specs.Number.{groupsOf, writtenOf, full, Begins, number, early, faulty, above, beginsWith, placed, numberOf}
-use Rattle.track.proofs.Laws.Judged.{cond-yes, cond-no, Each, each-answers, each-refuses}
+use Rattle.refusal.proofs.Laws.Judged.{cond-yes, cond-no, Each, each-answers, each-refuses}
 use Rattle.track.proofs.Laws.Written.{Held, groups-last, groups-more}
 
 -- ---- a reader of groups

@@ -11,9 +11,9 @@ use lib.Dec.{leb}
 use lib.ListN.{length, take, drop}
 use lib.Seq.{take-append-seam}
 use lib.Ieee.{Float, binary64, ofBits}
-use Rattle.double.specs.Outcome.{Outcome, answers, tooMany, notAccepted, noRoom, bytesAfter}
+use Rattle.refusal.specs.Outcome.{Outcome, answers, tooMany, notAccepted, noRoom, bytesAfter}
 use Rattle.point.specs.Accepted.{acceptedOf}
-use Rattle.track.specs.Judged.{filled}
+use Rattle.refusal.specs.Judged.{filled}
 use Rattle.track.specs.Number.{numberOf}
 use Rattle.track.specs.Difference.{restoredOf}
 use Rattle.track.specs.File.{limit}
@@ -22,7 +22,7 @@ use Rattle.track.specs.Coordinate.{judgedOf, coordinateOf}
 use Rattle.track.specs.Read.{coordinatesOf, countedOf, readOf, ReadSays}
 use Rattle.track.specs.declared.coordinate.Coordinate.{Coordinate}
 use Rattle.track.specs.declared.answer.Reading.the-variants.{Points}
-use Rattle.track.proofs.Laws.Judged.{also-answered, require-answered}
+use Rattle.refusal.proofs.Laws.Judged.{also-answered, require-answered}
 use Rattle.track.proofs.Laws.Scan.{coordinates-end, coordinates-turn}
 
 -- ---- coordinates

@@ -10,21 +10,22 @@ use lib.Dec.{leb}
 use lib.ListN.{length, take, drop, getD, set, length-set}
 use lib.Seq.{append-snoc, take-suc, drop-cons, set-at, take-suc-set, length-take-le}
 use lib.Ieee.{Float, nan}
-use Rattle.double.specs.Outcome.{Outcome, answers, refuses, Fixes, tooMany, noRoom, bytesAfter}
-use Rattle.double.specs.declared.refusal.Refusal.{Refusal}
-use Rattle.double.proofs.Laws.Outcome.{refuses-once}
-use Rattle.track.specs.Judged.{require, also, filled}
+use Rattle.refusal.specs.Outcome.{Outcome, answers, refuses, Fixes, tooMany, noRoom, bytesAfter}
+use Rattle.refusal.specs.declared.Refusal.{Refusal}
+use Rattle.refusal.proofs.Laws.Outcome.{refuses-once}
+use Rattle.refusal.specs.Judged.{require, also, filled}
 use Rattle.track.specs.Number.{numberOf}
 use Rattle.track.specs.Coordinate.{coordinateOf}
 use Rattle.track.specs.File.{limit}
-use Rattle.track.specs.Read.{coordinatesOf, countedOf, readOf, pointsSaid, said, ReadSays, Promised, decoded}
+use Rattle.track.specs.Read.{coordinatesOf, countedOf, readOf, pointsSaid, said, ReadSays}
+use Rattle.track.specs.Parts.{Promised, decoded}
 use Rattle.track.specs.declared.number.Number.{Number}
 use Rattle.track.specs.declared.coordinate.Coordinate.{Coordinate}
 use Rattle.track.specs.declared.answer.Reading.{Reading}
 use Rattle.track.specs.declared.answer.Reading.the-variants.{Points, Refused}
 use Rattle.track.specs.declared.reader.Decoded.{Decoded}
 use Rattle.track.specs.declared.reader.Decoded.the-variants.{Whole, Refused as Bad}
-use Rattle.track.proofs.Laws.Judged.{also-answers, also-refuses, require-holds, require-fails}
+use Rattle.refusal.proofs.Laws.Judged.{also-answers, also-refuses, require-holds, require-fails}
 use Rattle.track.proofs.Laws.Scan.{coordinates-end, coordinates-turn}
 
 -- ---- number by number

@@ -9,12 +9,12 @@ use native.Mathlib.Omega.{arith}
 use borrow.Author.Tests.{leb-true, leb-false}
 use lib.Dec.{eqb, leb}
 use lib.ListN.{length, drop}
-use Rattle.double.specs.Outcome.{Outcome, answers, tooMany, notAccepted, endsEarly, notShortest, bytesAfter, noRoom}
-use Rattle.track.specs.Judged.{require, also}
+use Rattle.refusal.specs.Outcome.{Outcome, answers, tooMany, notAccepted, endsEarly, notShortest, bytesAfter, noRoom}
+use Rattle.refusal.specs.Judged.{require, also}
 use Rattle.track.specs.Number.{numberOf}
 use Rattle.track.specs.Coordinate.{coordinateOf}
 use Rattle.track.specs.Read.{coordinatesOf, countedOf, readOf}
-use Rattle.track.proofs.Laws.Judged.{Each, each-answers, each-also, each-require}
+use Rattle.refusal.proofs.Laws.Judged.{Each, each-answers, each-also, each-require}
 use Rattle.track.proofs.Laws.Number.{number-each}
 use Rattle.track.proofs.Laws.Faults.{EndsEarly, NotShortest, number-early, number-faulty}
 use Rattle.track.proofs.Laws.Coordinate.{coordinate-each}

@@ -12,8 +12,8 @@ use lib.ListN.{length, drop, length-drop, drop-of-length-le}
 use lib.Seq.{drop-drop, drop-append-seam}
 use lib.Ieee.{Float, binary64, fits, ofBits, toBits}
 use lib.Ieee.Bits.{ofBits-toBits, toBits-ofBits, toBits-lt}
-use Rattle.double.specs.Outcome.{answers, oddLength, tooMany, notAccepted, noRoom, bytesAfter}
-use Rattle.double.specs.Search.{passingFrom}
+use Rattle.refusal.specs.Outcome.{answers, oddLength, tooMany, notAccepted, noRoom, bytesAfter}
+use Rattle.refusal.specs.Search.{passingFrom}
 use Rattle.point.specs.Accepted.{acceptedOf}
 use Rattle.double.specs.Worth.{AllDoubles}
 use Rattle.track.specs.Number.{writtenOf, full, Bytes, beginsWith, placed, numberOf}
@@ -24,7 +24,7 @@ use Rattle.track.specs.Coordinate.{judgedOf, coordinateOf}
 use Rattle.track.specs.Read.{coordinatesOf, countedOf, readOf}
 use Rattle.track.specs.declared.number.Number.{Number}
 use Rattle.track.specs.declared.coordinate.Coordinate.{Coordinate}
-use Rattle.track.proofs.Laws.Judged.{also-answers, require-holds, also-answered, require-answered}
+use Rattle.refusal.proofs.Laws.Judged.{also-answers, require-holds, also-answered, require-answered}
 use Rattle.track.proofs.Laws.Number.{number-written}
 use Rattle.track.proofs.Laws.Taken.{number-read}
 use Rattle.track.proofs.Laws.Difference.{restored-stored, restored-below, stored-below, stored-restored}

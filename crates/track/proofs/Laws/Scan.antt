@@ -9,8 +9,8 @@ use borrow.Author.Tests.{leb-true, leb-false}
 use lib.Dec.{leb}
 use lib.ListN.{length}
 use lib.Ieee.{Float}
-use Rattle.double.specs.Outcome.{Outcome, answers, refuses, bytesAfter}
-use Rattle.track.specs.Judged.{require, also}
+use Rattle.refusal.specs.Outcome.{Outcome, answers, refuses, bytesAfter}
+use Rattle.refusal.specs.Judged.{require, also}
 use Rattle.track.specs.Coordinate.{coordinateOf}
 use Rattle.track.specs.Scan.{Scan, coordinateThen, scanFrom, values, offsetAfter, patternAfter}
 use Rattle.track.specs.Read.{coordinatesOf}

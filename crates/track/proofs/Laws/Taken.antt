@@ -11,7 +11,7 @@ use borrow.Author.Tests.{ltb-true, ltb-false, eqb-true}
 use lib.Dec.{eqb, ltb}
 use lib.ListN.{length, take, drop}
 use lib.Seq.{drop-drop, getD-drop, take-nil}
-use Rattle.double.specs.Outcome.{answers}
+use Rattle.refusal.specs.Outcome.{answers}
 use Rattle.track.specs.declared.number.Number.{Number}
 use Rattle.track.specs.Number.{groupsOf, writtenOf, full, Bytes, Begins, number, early, faulty, above, beginsWith, placed, numberOf}
 use Rattle.track.proofs.Laws.Written.{Held, groups-last, groups-more}

@@ -10,18 +10,19 @@ use borrow.Author.Tests.{le-leb, lt-leb, eq-eqb, ne-eqb}
 use lib.ListN.{length, drop, getD, length-append, drop-of-length-le}
 use lib.Seq.{drop-cons, sets, sets-eq}
 use lib.Ieee.{Float, nan, binary64, toBits}
-use Rattle.double.specs.Outcome.{Outcome, answers, refuses, Fixes, oddLength, tooMany, notAccepted, noRoom}
-use Rattle.double.proofs.Laws.Outcome.{refuses-once}
-use Rattle.double.specs.Search.{passingFrom}
+use Rattle.refusal.specs.Outcome.{Outcome, answers, refuses, Fixes, oddLength, tooMany, notAccepted, noRoom}
+use Rattle.refusal.proofs.Laws.Outcome.{refuses-once}
+use Rattle.refusal.specs.Search.{passingFrom}
 use Rattle.point.specs.Accepted.{acceptedOf}
-use Rattle.track.specs.Judged.{require, also, filled}
+use Rattle.refusal.specs.Judged.{require, also, filled}
 use Rattle.track.specs.Number.{writtenOf}
 use Rattle.track.specs.Difference.{storedOf}
 use Rattle.track.specs.File.{limit, coordinateBytes, fileOf}
-use Rattle.track.specs.Write.{acceptedFrom, writeOf, said, WriteSays, AllAccepted, measureOf}
+use Rattle.track.specs.Write.{acceptedFrom, writeOf, said, WriteSays, AllAccepted}
+use Rattle.track.specs.Parts.{measureOf}
 use Rattle.track.specs.declared.answer.Writing.{Writing}
 use Rattle.track.specs.declared.answer.Writing.the-variants.{Length, Refused}
-use Rattle.track.proofs.Laws.Judged.{also-answers, also-refuses, require-holds, require-fails, require-answered}
+use Rattle.refusal.proofs.Laws.Judged.{also-answers, also-refuses, require-holds, require-fails, require-answered}
 use Rattle.track.proofs.Laws.Written.{written-length}
 use Rattle.track.proofs.Laws.File.{bytes-more, bytes-end}
 

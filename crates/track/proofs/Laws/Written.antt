@@ -12,7 +12,7 @@ use lib.Dec.{ltb}
 use lib.ListN.{length, set, length-set}
 use lib.Seq.{sets}
 use Rattle.track.specs.Number.{groupsOf, writtenOf, full}
-use Rattle.track.proofs.Laws.Judged.{cond-yes, cond-no}
+use Rattle.refusal.proofs.Laws.Judged.{cond-yes, cond-no}
 
 -- ---- groups
 -- what k groups of seven bits and one bit hold

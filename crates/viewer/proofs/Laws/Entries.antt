@@ -10,14 +10,15 @@ use lib.IntN.{ℤ, pos, negsuc}
 use lib.ListN.{length}
 use lib.Ieee.{Float}
 use borrow.Author.Tests.{eq-eqb, ne-eqb}
-use Rattle.double.specs.Outcome.{Outcome, refuses, Fixes, tooMany, tooFewCorners, oddLength}
-use Rattle.double.specs.declared.refusal.Refusal.{Refusal}
+use Rattle.refusal.specs.Outcome.{Outcome, refuses, Fixes, tooMany, tooFewCorners, oddLength}
+use Rattle.refusal.specs.declared.Refusal.{Refusal}
 use Rattle.point.specs.declared.Point.{Point}
 use Rattle.sum.specs.Total.{signNumber}
 use Rattle.geometry.specs.Side.{Turned, sideOf, said}
 use Rattle.geometry.specs.declared.answer.Turn.{Turn}
 use Rattle.geometry.specs.declared.answer.Side.the-variants.{Of, Refused as SideRefused}
-use Rattle.geometry.specs.Zone.{Lies, outside, border, inside, fewest, most, placeNumber, placeSaid, zoneOf, zoneSaid}
+use Rattle.geometry.specs.Zone.{fewest, most, placeSaid, zoneOf, zoneSaid}
+use Rattle.ground.specs.Zone.{Lies, outside, border, inside, placeNumber}
 use Rattle.geometry.specs.declared.answer.Place.{Place}
 use Rattle.geometry.specs.declared.answer.Zone.the-variants.{At, Refused}
 use Rattle.geometry.proofs.Laws.Zone.{zone-small, zone-large}

@@ -3,19 +3,17 @@ use mathlib.Core.Path.{sym}
 use native.Mathlib.Omega.{arith}
 use lib.Seq.{length-take-le}
 use borrow.Author.Needs.{needs}
+use borrow.Author.Needs.{needs}
 use Rattle.ask.proofs.answer.asked.Statement.{statement}
 use Rattle.ask.proofs.answer.asked.Tie as tie
 use Rattle.ask.proofs.answer.asked.Reads as reads
 use Rattle.ask.proofs.answer.asked.Lts as lts
 use Rattle.ask.proofs.answer.told.Reads as told-reads
-use Rattle.ask.proofs.answer.unclear.Reads as unclear-reads
+use Rattle.ask.proofs.reply.unclear.Reads as unclear-reads
 use Rattle.ask.proofs.tracks.write.Reads as write-reads
 
 unclear-requires : tie.Need-unclear-requires
 unclear-requires c κs = search needs
-
-same-length : tie.Need-same-length
-same-length c = search needs
 
 returns : tie.Need-returns
 returns c = search needs
@@ -23,14 +21,8 @@ returns c = search needs
 unclear-requires-2 : tie.Need-unclear-requires-2
 unclear-requires-2 c κs = search needs
 
-same-length-2 : tie.Need-same-length-2
-same-length-2 c = search needs
-
 returns-2 : tie.Need-returns-2
 returns-2 c = search needs
-
-enum-told : tie.Need-enum-told
-enum-told c = search needs
 
 slice-reshare-prefix-write : tie.Need-slice-reshare-prefix-write
 slice-reshare-prefix-write c = search needs
@@ -41,14 +33,11 @@ slice-aggregate-write c = sym (length-take-le _ _ (omega arith))
 write-requires : tie.Need-write-requires
 write-requires c κs = search needs
 
-same-length-3 : tie.Need-same-length-3
-same-length-3 c = search needs
+same-length : tie.Need-same-length
+same-length c = search needs
 
-same-length-4 : tie.Need-same-length-4
-same-length-4 c = search needs
-
-same-length-5 : tie.Need-same-length-5
-same-length-5 c = search needs
+same-length-2 : tie.Need-same-length-2
+same-length-2 c = search needs
 
 returns-3 : tie.Need-returns-3
 returns-3 c = search needs
@@ -62,11 +51,8 @@ slice-aggregate-told c = sym (length-take-le _ _ (omega arith))
 told-requires : tie.Need-told-requires
 told-requires c κs = search needs
 
-same-length-6 : tie.Need-same-length-6
-same-length-6 c = search needs
-
-same-length-7 : tie.Need-same-length-7
-same-length-7 c = search needs
+same-length-3 : tie.Need-same-length-3
+same-length-3 c = search needs
 
 returns-4 : tie.Need-returns-4
 returns-4 c = search needs
@@ -76,22 +62,17 @@ asked-spec =
     tie.close
     (tie.spec
     unclear-requires
-    same-length
     returns
     unclear-requires-2
-    same-length-2
     returns-2
-    enum-told
     slice-reshare-prefix-write
     slice-aggregate-write
     write-requires
-    same-length-3
-    same-length-4
-    same-length-5
+    same-length
+    same-length-2
     returns-3
     slice-relend-prefix-told
     slice-aggregate-told
     told-requires
-    same-length-6
-    same-length-7
+    same-length-3
     returns-4)

@@ -1,8 +1,8 @@
 -- `ask::line::reading` is safe: no digit is above 15, so that two of them make a byte. Assumes nothing.
 use mathlib.Core.Path.{sym, _∙_}
 use native.Mathlib.Omega.{arith}
-use borrow.Author.Needs.{needs}
 use Rattle.ask.proofs.Laws.Numeral.{digit-small}
+use borrow.Author.Needs.{needs}
 use Rattle.ask.proofs.line.reading.Statement.{statement}
 use Rattle.ask.proofs.line.reading.Tie as tie
 use Rattle.ask.proofs.line.reading.Reads as reads
@@ -40,26 +40,23 @@ read-on-requires-2 c κs = search needs
 returns-3 : tie.Need-returns-3
 returns-3 c = search needs
 
-returns-4 : tie.Need-returns-4
-returns-4 c = search needs
-
 mul-token : tie.Need-mul-token
 mul-token c = search needs
 
 add-token : tie.Need-add-token
 add-token c =
-    let found = c .before .before .before .before .before in
+    let found = c .before .before .before .before in
     let small = digit-small _ _ (sym (found .before .before .digit-of .ensures) ∙ found .d .given .1) in
     omega (arith, small)
 
 cast-token : tie.Need-cast-token
 cast-token c =
-    let found = c .before .before .before .before .before in
+    let found = c .before .before .before .before in
     let small = digit-small _ _ (sym (found .before .before .digit-of .ensures) ∙ found .d .given .1) in
     omega (arith, small)
 
-slice-write-token : tie.Need-slice-write-token
-slice-write-token c = search needs
+element-write-token : tie.Need-element-write-token
+element-write-token c = search needs
 
 add-read-on-2 : tie.Need-add-read-on-2
 add-read-on-2 c = search needs
@@ -67,11 +64,8 @@ add-read-on-2 c = search needs
 read-on-requires-3 : tie.Need-read-on-requires-3
 read-on-requires-3 c κs = search needs
 
-same-length : tie.Need-same-length
-same-length c = search needs
-
-returns-5 : tie.Need-returns-5
-returns-5 c = search needs
+returns-4 : tie.Need-returns-4
+returns-4 c = search needs
 
 pub reading-spec : {M : Type 1} → statement M
 reading-spec =
@@ -87,12 +81,10 @@ reading-spec =
     sub-read-on
     read-on-requires-2
     returns-3
-    returns-4
     mul-token
     add-token
     cast-token
-    slice-write-token
+    element-write-token
     add-read-on-2
     read-on-requires-3
-    same-length
-    returns-5)
+    returns-4)

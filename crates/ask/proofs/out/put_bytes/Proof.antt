@@ -1,19 +1,25 @@
--- `ask::out::put_bytes` is safe and ends: each turn writes one byte. Assumes nothing.
+-- `ask::out::put_bytes` is safe and ends: each turn takes one byte. Assumes nothing.
 use Prim.Native.Nat.{_-_}
-use mathlib.Core.Path.{_≡_}
 use lib.ListN.{length}
 use borrow.Author.Needs.{needs}
 use Rattle.ask.proofs.out.put_bytes.Statement.{statement}
 use Rattle.ask.proofs.out.put_bytes.Tie as tie
 use Rattle.ask.proofs.out.put_bytes.Reads as reads
 use Rattle.ask.proofs.out.put_bytes.Lts as lts
+use Rattle.ask.proofs.out.put.Reads as put-reads
 use Rattle.ask.proofs.out.put_byte.Reads as put-byte-reads
 
 abbrev Inv-loop : tie.InvT-loop
-Inv-loop out₀ len bytes n₀ i₀ out n i = length out ≡ length out₀
+Inv-loop out₀ len bytes n₀ i₀ out n i = Unit
 
 abbrev μ-loop : tie.MeasureT-loop
 μ-loop out₀ len bytes n₀ i₀ out n i = length bytes - i
+
+returns : tie.Need-returns Inv-loop μ-loop
+returns c = search needs
+
+put-requires : tie.Need-put-requires Inv-loop μ-loop
+put-requires c κs = search needs
 
 loop-holds : tie.Need-loop-holds Inv-loop μ-loop
 loop-holds c = search needs
@@ -33,11 +39,8 @@ loop-less c = search needs
 loop-again : tie.Need-loop-again Inv-loop μ-loop
 loop-again c = search needs
 
-same-length : tie.Need-same-length Inv-loop μ-loop
-same-length c = search needs
-
-returns : tie.Need-returns Inv-loop μ-loop
-returns c = search needs
+returns-2 : tie.Need-returns-2 Inv-loop μ-loop
+returns-2 c = search needs
 
 pub put-bytes-spec : {M : Type 1} → statement M
 put-bytes-spec =
@@ -45,11 +48,12 @@ put-bytes-spec =
     (tie.spec
     Inv-loop
     μ-loop
+    returns
+    put-requires
     loop-holds
     shared-slice-read-put-byte
     put-byte-requires
     add-i
     loop-less
     loop-again
-    same-length
-    returns)
+    returns-2)

@@ -1,6 +1,5 @@
--- `ask::out::put_doubles` is safe and ends: each turn writes one double. Assumes nothing.
+-- `ask::out::put_doubles` is safe and ends: each turn takes one double of the list. Assumes nothing.
 use Prim.Native.Nat.{_-_}
-use mathlib.Core.Path.{_≡_}
 use lib.ListN.{length}
 use borrow.Author.Needs.{needs}
 use Rattle.ask.proofs.out.put_doubles.Statement.{statement}
@@ -8,10 +7,11 @@ use Rattle.ask.proofs.out.put_doubles.Tie as tie
 use Rattle.ask.proofs.out.put_doubles.Reads as reads
 use Rattle.ask.proofs.out.put_doubles.Lts as lts
 use Rattle.ask.proofs.out.put.Reads as put-reads
-use Rattle.ask.proofs.out.put_double.Reads as put-double-reads
+use Rattle.ask.proofs.out.put_hex.Reads as put-hex-reads
+use Rattle.double.proofs.to_pattern.Reads as to-pattern-reads
 
 abbrev Inv-loop : tie.InvT-loop
-Inv-loop out₀ len list n₀ i₀ out n i = length out ≡ length out₀
+Inv-loop out₀ len list n₀ i₀ out n i = Unit
 
 abbrev μ-loop : tie.MeasureT-loop
 μ-loop out₀ len list n₀ i₀ out n i = length list - i
@@ -22,14 +22,17 @@ loop-holds c = search needs
 put-requires : tie.Need-put-requires Inv-loop μ-loop
 put-requires c κs = search needs
 
-mul-put-double : tie.Need-mul-put-double Inv-loop μ-loop
-mul-put-double c = search needs
+mul-to-pattern : tie.Need-mul-to-pattern Inv-loop μ-loop
+mul-to-pattern c = search needs
 
-shared-slice-read-put-double : tie.Need-shared-slice-read-put-double Inv-loop μ-loop
-shared-slice-read-put-double c = search needs
+shared-slice-read-to-pattern : tie.Need-shared-slice-read-to-pattern Inv-loop μ-loop
+shared-slice-read-to-pattern c = search needs
 
-put-double-requires : tie.Need-put-double-requires Inv-loop μ-loop
-put-double-requires c κs = search needs
+to-pattern-requires : tie.Need-to-pattern-requires Inv-loop μ-loop
+to-pattern-requires c κs = search needs
+
+put-hex-requires : tie.Need-put-hex-requires Inv-loop μ-loop
+put-hex-requires c κs = search needs
 
 add-i : tie.Need-add-i Inv-loop μ-loop
 add-i c = search needs
@@ -39,9 +42,6 @@ loop-less c = search needs
 
 loop-again : tie.Need-loop-again Inv-loop μ-loop
 loop-again c = search needs
-
-same-length : tie.Need-same-length Inv-loop μ-loop
-same-length c = search needs
 
 returns : tie.Need-returns Inv-loop μ-loop
 returns c = search needs
@@ -54,11 +54,11 @@ put-doubles-spec =
     μ-loop
     loop-holds
     put-requires
-    mul-put-double
-    shared-slice-read-put-double
-    put-double-requires
+    mul-to-pattern
+    shared-slice-read-to-pattern
+    to-pattern-requires
+    put-hex-requires
     add-i
     loop-less
     loop-again
-    same-length
     returns)

@@ -5,9 +5,12 @@ use borrow.Author.Needs.{needs}
 use Rattle.point.specs.Accepted.{reach}
 use Rattle.sum.specs.Total.{signNumber}
 use Rattle.sum.specs.declared.answer.Sign.{Sign}
-use Rattle.geometry.specs.Zone.{isZero, edge, onEdge}
+use Rattle.ground.specs.Compare.{isZero}
+use Rattle.ground.specs.Edge.{edge, onEdge}
 use Rattle.geometry.proofs.Laws.Product.{Within, accepted-within}
 use Rattle.geometry.proofs.Laws.Side.{turn-said-sign}
+use Rattle.geometry.specs.Spot.{spotOf}
+use Rattle.geometry.proofs.Laws.Worths.{within-point}
 use Rattle.geometry.proofs.Laws.Edges.{edge-met}
 use Rattle.geometry.proofs.edges.meets.Statement.{statement}
 use Rattle.geometry.proofs.edges.meets.Tie as tie
@@ -28,11 +31,12 @@ held c =
 
 -- by the sign that the turn has
 told : (c : tie.After-turn) (s : Sign) → c .turn .result .sign ≡ s
-    → (let i = c .before .args in isZero (signNumber s) ≡ onEdge (edge (i .a) (i .b)) (i .p))
+    → (let i = c .before .args in isZero (signNumber s) ≡ onEdge (edge (spotOf (i .a)) (spotOf (i .b))) (spotOf (i .p)))
 told c s e =
     let i = c .before in
     let (A, B, P) = held i in
-    edge-met _ _ s (ap signNumber (sym e) ∙ turn-said-sign _ _ _ A B P (c .turn .result) (c .turn .ensures)) (i .pre .3)
+    edge-met _ _ _ (within-point reach _ A) (within-point reach _ B) (within-point reach _ P) s
+    (ap signNumber (sym e) ∙ turn-said-sign _ _ _ A B P (c .turn .result) (c .turn .ensures)) (i .pre .3)
 
 turn-requires : tie.Need-turn-requires
 turn-requires c κs = (c .pre .0, c .pre .1, c .pre .2)

@@ -6,10 +6,14 @@ use borrow.Author.Needs.{needs}
 use Rattle.point.specs.Accepted.{reach}
 use Rattle.sum.specs.Total.{signNumber}
 use Rattle.sum.specs.declared.answer.Sign.{Sign}
-use Rattle.geometry.specs.Zone.{isPositive, edge, crossingOf}
+use Rattle.ground.specs.Compare.{isPositive}
+use Rattle.ground.specs.Edge.{edge}
+use Rattle.geometry.specs.Parts.{crossingOf}
 use Rattle.geometry.specs.declared.edges.Crossing.the-variants.{None, Up}
 use Rattle.geometry.proofs.Laws.Product.{Within, accepted-within}
 use Rattle.geometry.proofs.Laws.Side.{turn-said-sign}
+use Rattle.geometry.specs.Spot.{spotOf}
+use Rattle.geometry.proofs.Laws.Worths.{within-point}
 use Rattle.geometry.proofs.Laws.Edges.{crossing-rising}
 use Rattle.geometry.proofs.edges.rising.Statement.{statement}
 use Rattle.geometry.proofs.edges.rising.Tie as tie
@@ -30,11 +34,12 @@ held c =
 
 -- by the sign that the turn has
 told : (c : tie.After-turn) (s : Sign) → c .turn .result .sign ≡ s
-    → (let i = c .before .args in cond (isPositive (signNumber s)) Up None ≡ crossingOf (edge (i .a) (i .b)) (i .p))
+    → (let i = c .before .args in cond (isPositive (signNumber s)) Up None ≡ crossingOf (edge (spotOf (i .a)) (spotOf (i .b))) (spotOf (i .p)))
 told c s e =
     let i = c .before in
     let (A, B, P) = held i in
-    crossing-rising _ _ (i .pre .0) (i .pre .2) s (ap signNumber (sym e) ∙ turn-said-sign _ _ _ A B P (c .turn .result) (c .turn .ensures)) (i .pre .3)
+    crossing-rising _ _ _ (within-point reach _ A) (within-point reach _ B) (within-point reach _ P) s
+    (ap signNumber (sym e) ∙ turn-said-sign _ _ _ A B P (c .turn .result) (c .turn .ensures)) (i .pre .3)
 
 turn-requires : tie.Need-turn-requires
 turn-requires c κs = (c .pre .0, c .pre .1, c .pre .2)

@@ -7,7 +7,7 @@ use lib.ListN.{length, drop}
 use borrow.Author.Needs.{needs}
 use borrow.Author.Tests.{not-true, not-false}
 use Rattle.point.specs.Accepted.{acceptingFrom}
-use Rattle.double.proofs.Laws.Search.{passing-here, passing-later, passing-end}
+use Rattle.refusal.proofs.Laws.Search.{passing-here, passing-later, passing-end}
 use Rattle.geometry.specs.Parts.{cornersFault, faultSaid}
 use Rattle.geometry.proofs.zones.corner_fault.Statement.{statement}
 use Rattle.geometry.proofs.zones.corner_fault.Tie as tie

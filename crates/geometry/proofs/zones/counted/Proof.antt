@@ -5,9 +5,12 @@ use native.Mathlib.Omega.{arith}
 use lib.ListN.{drop}
 use borrow.Author.Needs.{needs}
 use Rattle.geometry.specs.Side.{Accepted}
-use Rattle.geometry.specs.Zone.{edge, edgesOf, cornersOf, cornerAt, nextOf, crossingOf, isUp, isDown}
+use Rattle.geometry.specs.Zone.{cornersOf, cornerAt, nextOf}
+use Rattle.ground.specs.Edge.{edge, edgesOf, isUp, isDown}
+use Rattle.geometry.specs.Parts.{crossingOf}
 use Rattle.geometry.specs.Parts.{withEdge, countsOf}
 use Rattle.geometry.specs.declared.zones.Counts.{Counts}
+use Rattle.geometry.specs.Spot.{spotOf}
 use Rattle.geometry.proofs.Laws.Zone.{next-inside, counts-end, counts-before, count-few}
 use Rattle.geometry.proofs.zones.counted.Statement.{statement}
 use Rattle.geometry.proofs.zones.counted.Tie as tie
@@ -18,7 +21,7 @@ use Rattle.geometry.proofs.zones.next_of.Reads as next-of-reads
 use Rattle.geometry.proofs.zones.with_edge.Reads as with-edge-reads
 
 abbrev Inv-loop : tie.InvT-loop
-Inv-loop corners n p c₀ k₀ c k = (k ≤ n) × (c ≡ countsOf (drop k (edgesOf (cornersOf corners))) p)
+Inv-loop corners n p c₀ k₀ c k = (k ≤ n) × (c ≡ countsOf (drop k (edgesOf (cornersOf corners))) (spotOf p))
 
 abbrev μ-loop : tie.MeasureT-loop
 μ-loop corners n p c₀ k₀ c k = k
@@ -71,7 +74,7 @@ loop-again c =
       c .with-edge .ensures
           ∙ ap₂ withEdge (turn .loop .inv .1)
           (c .before .crosses-at .ensures
-          ∙ ap (λ (j : ℕ). crossingOf (edge (cornerAt xs k) (cornerAt xs j)) (s .args .p)) (c .before .before .next-of .ensures))
+          ∙ ap (λ (j : ℕ). crossingOf (edge (spotOf (cornerAt xs k)) (spotOf (cornerAt xs j))) (spotOf (s .args .p))) (c .before .before .next-of .ensures))
           ∙ counts-before xs (s .args .n) (s .args .p) (s .pre .0 .corners) k (turn .loop .k) (omega arith) (omega arith),
     )
 
@@ -79,7 +82,7 @@ returns : tie.Need-returns Inv-loop μ-loop
 returns c =
     let s = c .before .before .before in
     let e : c .before .loop .k ≡ 0 = omega arith in
-    c .before .loop .inv .1 ∙ ap (λ (k : ℕ). countsOf (drop k (edgesOf (cornersOf (s .args .corners .now)))) (s .args .p)) e
+    c .before .loop .inv .1 ∙ ap (λ (k : ℕ). countsOf (drop k (edgesOf (cornersOf (s .args .corners .now)))) (spotOf (s .args .p))) e
 
 pub counted-spec : {M : Type 1} → statement M
 counted-spec =

@@ -5,9 +5,12 @@ use mathlib.Core.Logic.{inl, inr}
 use native.Mathlib.Omega.{arith}
 use borrow.Author.Needs.{needs}
 use Rattle.geometry.specs.Side.{Accepted}
-use Rattle.geometry.specs.Zone.{edge, edgesOf, cornersOf, cornerAt, nextOf, onEdge, border, placeOf, placeSaid, isUp, isDown}
+use Rattle.geometry.specs.Zone.{placeIn, cornersOf, cornerAt, nextOf, placeSaid}
+use Rattle.ground.specs.Edge.{edge, edgesOf, onEdge, isUp, isDown}
+use Rattle.ground.specs.Zone.{border}
 use Rattle.geometry.specs.declared.zones.Counts.{Counts}
-use Rattle.geometry.proofs.Laws.Zone.{next-inside, count-few, offBorder, walkFrom, walk-start, walk-here, walk-later, walk-end}
+use Rattle.geometry.specs.Spot.{spotOf}
+use Rattle.geometry.proofs.Laws.Zone.{next-inside, count-few, offOf, walkFrom, walk-start, walk-here, walk-later, walk-end}
 use Rattle.geometry.proofs.Laws.Zone.{off-inside, off-outside}
 use Rattle.geometry.proofs.zones.place.Statement.{statement}
 use Rattle.geometry.proofs.zones.place.Tie as tie
@@ -18,7 +21,7 @@ use Rattle.geometry.proofs.zones.next_of.Reads as next-of-reads
 use Rattle.geometry.proofs.zones.on_edge_at.Reads as on-edge-at-reads
 
 abbrev Inv-loop : tie.InvT-loop
-Inv-loop corners n p k₀ k = (k ≤ n) × (walkFrom corners p k ≡ placeOf (edgesOf (cornersOf corners)) p)
+Inv-loop corners n p k₀ k = (k ≤ n) × (walkFrom corners p k ≡ placeIn corners p)
 
 abbrev μ-loop : tie.MeasureT-loop
 μ-loop corners n p k₀ k = n - k
@@ -57,7 +60,7 @@ loop-again c =
     let s = turn .before .before in
     let xs = s .args .corners .now in
     let k = turn .loop .k in
-    let e = ap (λ (j : ℕ). onEdge (edge (cornerAt xs k) (cornerAt xs j)) (s .args .p)) (c .before .before .next-of .ensures) in
+    let e = ap (λ (j : ℕ). onEdge (edge (spotOf (cornerAt xs k)) (spotOf (cornerAt xs j))) (spotOf (s .args .p))) (c .before .before .next-of .ensures) in
     let off = sym e ∙ sym (c .before .on-edge-at .ensures) ∙ c .if2 .left in (
       search needs,
       sym (walk-later xs (s .args .n) (s .args .p) (s .pre .0 .corners) k (omega arith) off) ∙ turn .loop .inv .1,
@@ -66,7 +69,7 @@ loop-again c =
 -- the walk has ended on an edge
 found : (c : tie.Joined1 Inv-loop μ-loop)
     → (let s = c .before .before .before in
-    c .if1 .edge < s .args .n → border (c .if1 .edge) ≡ placeOf (edgesOf (cornersOf (s .args .corners .now))) (s .args .p))
+    c .if1 .edge < s .args .n → border (c .if1 .edge) ≡ placeIn (s .args .corners .now) (s .args .p))
 found c h =
     let s = c .before .before .before in
     let xs = s .args .corners .now in
@@ -76,7 +79,7 @@ found c h =
           let k = c .before .loop .k in
           ap border (t .4)
           ∙ sym (walk-here xs (s .args .n) (s .args .p) (s .pre .0 .corners) k (omega (arith, t .0))
-          (ap (λ (j : ℕ). onEdge (edge (cornerAt xs k) (cornerAt xs j)) (s .args .p)) (sym (t .1 .ensures))
+          (ap (λ (j : ℕ). onEdge (edge (spotOf (cornerAt xs k)) (spotOf (cornerAt xs j))) (spotOf (s .args .p))) (sym (t .1 .ensures))
           ∙ sym (t .2 .ensures) ∙ t .3 .taken))
           ∙ c .before .loop .inv .1
     ]
@@ -84,7 +87,7 @@ found c h =
 -- the walk has passed all edges
 missed : (c : tie.Joined1 Inv-loop μ-loop)
     → (let s = c .before .before .before in let es = edgesOf (cornersOf (s .args .corners .now)) in
-    s .args .n ≤ c .if1 .edge → offBorder es (s .args .p) ≡ placeOf es (s .args .p))
+    s .args .n ≤ c .if1 .edge → offOf es (spotOf (s .args .p)) ≡ placeIn (s .args .corners .now) (s .args .p))
 missed c h =
     let s = c .before .before .before in
     elim (c .if1 .came) [

@@ -2,7 +2,7 @@
 use mathlib.Core.Path.{sym}
 use native.Mathlib.Omega.{arith}
 use lib.Seq.{length-take-le}
-use Rattle.report.specs.Zone.{JudgedHeld}
+use Rattle.report.specs.Parts.{JudgedHeld}
 use Rattle.report.specs.declared.answer.Judged.the-variants.{Corners}
 use Rattle.report.proofs.Laws.Zone.{judged-as, judged-zoned, judged-most}
 use Rattle.report.proofs.Laws.Report.{says-refused, says-told}

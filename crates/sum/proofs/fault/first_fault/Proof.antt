@@ -5,8 +5,9 @@ use mathlib.Core.Path.{_≡_, sym, _∙_}
 use lib.ListN.{length, drop}
 use borrow.Author.Needs.{needs}
 use borrow.Author.Tests.{not-true, not-false}
-use Rattle.sum.specs.Refused.{checkedFrom, faultOf, found}
-use Rattle.double.proofs.Laws.Search.{passing-here, passing-later, passing-end}
+use Rattle.sum.specs.Refused.{checkedFrom}
+use Rattle.sum.specs.Parts.{faultOf, found}
+use Rattle.refusal.proofs.Laws.Search.{passing-here, passing-later, passing-end}
 use Rattle.sum.proofs.Laws.Refused.{checked-long, checked-short}
 use Rattle.sum.proofs.fault.first_fault.Statement.{statement}
 use Rattle.sum.proofs.fault.first_fault.Tie as tie

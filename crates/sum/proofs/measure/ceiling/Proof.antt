@@ -3,7 +3,7 @@
 use mathlib.Core.Path.{_≡_, sym, ap, _∙_}
 use borrow.Author.Needs.{needs}
 use borrow.Author.Needs.{needs}
-use Rattle.sum.specs.Refused.{found, faultOf}
+use Rattle.sum.specs.Parts.{found, faultOf}
 use Rattle.sum.specs.declared.fault.Fault.the-variants.{None}
 use Rattle.sum.proofs.Laws.Refused.{fault-none}
 use Rattle.sum.proofs.Laws.Ceiling.{ceiling-refused, ceiling-measured}

@@ -1,7 +1,7 @@
 -- `sum::plain_sum::plain` meets its contract.
-use Rattle.double.specs.Outcome.{answers}
+use Rattle.refusal.specs.Outcome.{answers}
 use Rattle.double.proofs.Laws.Apart.{Means, taken-means, taken-finite, taken-refused}
-use Rattle.double.proofs.Laws.Search.{passing-here, passing-later, passing-end}
+use Rattle.refusal.proofs.Laws.Search.{passing-here, passing-later, passing-end}
 use Rattle.sum.proofs.Laws.Refused.{checked-long, checked-short}
 use Prim.Native.Nat.{_≤_, _-_}
 use mathlib.Core.Path.{_≡_, refl, sym, ap, _∙_}

@@ -1,7 +1,7 @@
 -- `sum::run` meets its contract: a fault is the refusal, and otherwise the inner run answers. Assumes nothing.
 use mathlib.Core.Path.{sym, ap, _∙_}
 use borrow.Author.Needs.{needs}
-use Rattle.sum.specs.Refused.{found}
+use Rattle.sum.specs.Parts.{found}
 use Rattle.sum.proofs.Laws.Refused.{fault-none}
 use Rattle.sum.proofs.Laws.Running.{run-says-refused, run-says-done}
 use Rattle.sum.proofs.running.run.Statement.{statement}

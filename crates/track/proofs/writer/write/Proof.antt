@@ -5,9 +5,10 @@ use native.Mathlib.Omega.{arith}
 use mathlib.Core.List.{List}
 use lib.ListN.{length}
 use lib.Ieee.{Float}
-use Rattle.double.specs.Outcome.{answers}
+use Rattle.refusal.specs.Outcome.{answers}
 use Rattle.track.specs.File.{coordinateBytes, fileOf}
-use Rattle.track.specs.Write.{acceptedFrom, measured}
+use Rattle.track.specs.Write.{acceptedFrom}
+use Rattle.track.specs.Parts.{measured}
 use Rattle.track.proofs.Laws.Written.{written-length}
 use Rattle.track.proofs.Laws.File.{bytes-length, file-total, file-put}
 use Rattle.track.proofs.Laws.Write.{

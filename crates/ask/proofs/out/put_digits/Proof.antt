@@ -1,0 +1,50 @@
+-- `ask::out::put_digits` is safe and ends: each turn takes one digit. Assumes nothing.
+use Prim.Native.Nat.{_-_}
+use lib.ListN.{length}
+use borrow.Author.Needs.{needs}
+use Rattle.ask.proofs.out.put_digits.Statement.{statement}
+use Rattle.ask.proofs.out.put_digits.Tie as tie
+use Rattle.ask.proofs.out.put_digits.Reads as reads
+use Rattle.ask.proofs.out.put_digits.Lts as lts
+use Rattle.ask.proofs.out.put.Reads as put-reads
+
+abbrev Inv-loop : tie.InvT-loop
+Inv-loop out₀ len digits n₀ i₀ out n i = Unit
+
+abbrev μ-loop : tie.MeasureT-loop
+μ-loop out₀ len digits n₀ i₀ out n i = length digits - i
+
+loop-holds : tie.Need-loop-holds Inv-loop μ-loop
+loop-holds c = search needs
+
+shared-slice-read-put : tie.Need-shared-slice-read-put Inv-loop μ-loop
+shared-slice-read-put c = search needs
+
+put-requires : tie.Need-put-requires Inv-loop μ-loop
+put-requires c κs = search needs
+
+add-i : tie.Need-add-i Inv-loop μ-loop
+add-i c = search needs
+
+loop-less : tie.Need-loop-less Inv-loop μ-loop
+loop-less c = search needs
+
+loop-again : tie.Need-loop-again Inv-loop μ-loop
+loop-again c = search needs
+
+returns : tie.Need-returns Inv-loop μ-loop
+returns c = search needs
+
+pub put-digits-spec : {M : Type 1} → statement M
+put-digits-spec =
+    tie.close
+    (tie.spec
+    Inv-loop
+    μ-loop
+    loop-holds
+    shared-slice-read-put
+    put-requires
+    add-i
+    loop-less
+    loop-again
+    returns)

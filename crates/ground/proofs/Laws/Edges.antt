@@ -1,0 +1,71 @@
+-- An edge from its other end. In order: the determinant of a turned edge is the negative; the same points are on it; it counts up where the
+-- other counts down; no edge counts both ways; a value between two others, from the order.
+-- Not here: lists of edges (`Tally`). Assumes nothing.
+use mathlib.Core.Path.{_≡_, refl, sym, _∙_, subst}
+use mathlib.Core.Bool.{Bool, true, false, _&&_, _||_}
+use mathlib.Core.Logic.{_⊎_, inl, inr}
+use lib.Dec.{T}
+use lib.IntN.{ℤ, negℤ, _-ℤ_, _*ℤ_}
+use Rattle.whole.specs.Order.{_≤ᶻ_}
+use Rattle.whole.proofs.Laws.Ring.{Expr, _:-_, _:*_, opp, solve}
+use Rattle.ground.specs.Compare.{atMost, below, isPositive, isNegative}
+use Rattle.ground.specs.Plane.{Spot, determinant}
+use Rattle.ground.specs.Edge.{Edge, sideOfEdge, between, onEdge, isUp, isDown}
+use Rattle.ground.specs.Listing.{turnedRound}
+use Rattle.ground.proofs.Laws.Compare.{at-most-says, negated-zero, negated-positive, negated-negative, one-sign}
+
+-- ---- the determinant
+abbrev det : ℤ → ℤ → ℤ → ℤ → ℤ → ℤ → ℤ
+det px py qx qy rx ry = (qx -ℤ px) *ℤ (ry -ℤ py) -ℤ (qy -ℤ py) *ℤ (rx -ℤ px)
+
+abbrev detExpr : Expr → Expr → Expr → Expr → Expr → Expr → Expr
+detExpr px py qx qy rx ry = (qx :- px) :* (ry :- py) :- (qy :- py) :* (rx :- px)
+
+det-round : (px py qx qy rx ry : ℤ) → det qx qy px py rx ry ≡ negℤ (det px py qx qy rx ry)
+det-round = solve 6 (λ px py qx qy rx ry. (detExpr qx qy px py rx ry, opp (detExpr px py qx qy rx ry))) refl
+
+pub determinant-round : (p q r : Spot) → determinant q p r ≡ negℤ (determinant p q r)
+determinant-round p q r = det-round (p .x) (p .y) (q .x) (q .y) (r .x) (r .y)
+
+-- ---- between two values
+either-order : (s t : Bool) → (s || t) ≡ (t || s)
+either-order true true = refl
+either-order true false = refl
+either-order false true = refl
+either-order false false = refl
+
+pub between-round : (a b v : ℤ) → between b a v ≡ between a b v
+between-round a b v = either-order (atMost b v && atMost v a) (atMost a v && atMost v b)
+
+pub between-told : (a b v : ℤ) → ((a ≤ᶻ v) × (v ≤ᶻ b)) ⊎ ((b ≤ᶻ v) × (v ≤ᶻ a)) → between a b v ≡ true
+between-told a b v (inl h) = rw (at-most-says a v .1 (h .0), at-most-says v b .1 (h .1))
+between-told a b v (inr h) = sym (between-round a b v) ∙ rw (at-most-says b v .1 (h .0), at-most-says v a .1 (h .1))
+
+-- ---- the edge turned round, and no edge both ways
+once : (s t : Bool) (z : ℤ) → (s && isPositive z) ≡ true → (t && isNegative z) ≡ false
+once true true z e = one-sign z e
+once true false z e = refl
+once false true z e = absurd (subst T (sym e) tt)
+once false false z e = refl
+
+module _ (e : Edge) (p : Spot) where
+  pub side-round : sideOfEdge (turnedRound e) p ≡ negℤ (sideOfEdge e p)
+  side-round = determinant-round (e .from) (e .to) p
+
+  pub on-round : onEdge (turnedRound e) p ≡ onEdge e p
+  unfolding onEdge
+  on-round = rw (side-round, negated-zero (sideOfEdge e p), between-round (e .from .x) (e .to .x), between-round (e .from .y) (e .to .y))
+
+  pub up-round : isUp (turnedRound e) p ≡ isDown e p
+  unfolding isUp isDown
+  up-round = rw (side-round, negated-positive)
+
+  pub down-round : isDown (turnedRound e) p ≡ isUp e p
+  unfolding isUp isDown
+  down-round = rw (side-round, negated-negative)
+
+  -- no edge counts both ways
+  pub crossing-once : isUp e p ≡ true → isDown e p ≡ false
+  unfolding isUp isDown
+  crossing-once =
+      once (atMost (e .from .y) (p .y) && below (p .y) (e .to .y)) (atMost (e .to .y) (p .y) && below (p .y) (e .from .y)) (sideOfEdge e p)

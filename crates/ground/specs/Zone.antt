@@ -1,0 +1,47 @@
+-- The zone over whole numbers: how many edges count, and the place (docs/RULES.md, section Zone).
+use Prim.Native.Nat.{ℕ, _+_, _%_}
+use mathlib.Core.Bool.{Bool, cond}
+use mathlib.Core.List.{List, [], _∷_}
+use lib.Dec.{eqb}
+use Rattle.ground.specs.Plane.{Spot}
+use Rattle.ground.specs.Edge.{Edge, onEdge, isUp, isDown}
+
+-- how many edges pass a test
+unfoldable pub countOf : (Edge → Spot → Bool) → List Edge → Spot → ℕ
+countOf is [] p = 0
+countOf is (e ∷ es) p = cond (is e p) 1 0 + countOf is es p
+
+-- Zone 5 and 6: how many edges count upward and how many downward. What is made of this tally is said once, in `offBorder`
+pub record Tally : Type 0 where
+  pub ups : ℕ
+  pub downs : ℕ
+
+unfoldable pub tallyOf : List Edge → Spot → Tally
+unfolding countOf isUp isDown
+tallyOf es p = record { ups = countOf isUp es p; downs = countOf isDown es p }
+
+-- Zone 9: outside; on the border, at the edge of this number; inside
+pub data Lies : Type 0 where
+  outside : Lies
+  border : ℕ → Lies
+  inside : Lies
+
+-- Viewer 3: the number of a place
+abbrev pub placeNumber : Lies → ℕ
+placeNumber outside = 0
+placeNumber (border k) = 1
+placeNumber inside = 2
+
+-- Zone 7: inside if the edges that count are odd in number, outside if even
+unfoldable pub offBorder : Tally → Lies
+offBorder t = cond (eqb ((t .ups + t .downs) % 2) 1) inside outside
+
+-- Zone 4: edges from k on, walked up to the first that the point is on, whose number is answered; `off` is answered off the border
+unfoldable pub walk : ℕ → List Edge → Spot → Lies → Lies
+unfolding onEdge
+walk k [] p off = off
+walk k (e ∷ es) p off = cond (onEdge e p) (border k) (walk (k + 1) es p off)
+
+unfoldable pub placeOf : List Edge → Spot → Lies
+unfolding walk tallyOf offBorder
+placeOf es p = walk 0 es p (offBorder (tallyOf es p))

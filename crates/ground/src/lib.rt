@@ -1,0 +1,1 @@
+// The rules of the plane over whole numbers: points, sides, edges, the zone. Definitions and laws; no function.

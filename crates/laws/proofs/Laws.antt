@@ -1,0 +1,7 @@
+-- The laws of the answers, each file over those above it.
+-- the zone: equal by value, another list of its corners, a shared edge, two triangles
+pub mod Zones
+-- a list of the same corners is answered where one is
+pub mod Relisted
+-- two zones that share an edge or a chain of edges, and their joint outline
+pub mod Joined

@@ -1,0 +1,1 @@
+// What the answers mean to a reader: laws of what the public calls promise. No function.

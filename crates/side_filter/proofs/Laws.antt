@@ -1,0 +1,13 @@
+-- The laws of the filter of a side, each file over those above it.
+-- a whole number as a difference of two naturals
+pub mod By
+-- the filter of a difference of two products, in numbers
+pub mod Filter
+-- the greater of two magnitudes, as a double
+pub mod Greater
+-- the filter on four rounded differences, at the floats
+pub mod Threshold
+-- the filter decides the sign of the side's determinant
+pub mod Orientation
+-- real doubles, worked through
+mod Examples
