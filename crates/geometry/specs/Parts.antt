@@ -1,6 +1,6 @@
 -- What inner functions of the exact product and the zone find: believed by no reader, since laws say that side and zone are what their
 -- rules say.
-use Prim.Native.Nat.{_+_, ℕ, _*_, _^_, _≤_, _<_, _∣_}
+use Prim.Native.Nat.{_+_}
 use mathlib.Core.Path.{_≡_}
 use mathlib.Core.Bool.{Bool, true, false, _&&_, _||_, cond}
 use mathlib.Core.List.{List}
@@ -16,29 +16,13 @@ use Rattle.geometry.specs.declared.edges.Crossing.the-variants.{None, Up
 use Rattle.geometry.specs.declared.zones.Counts.{Counts}
 use Rattle.geometry.specs.declared.zones.Fault.{Fault}
 use Rattle.geometry.specs.declared.zones.Fault.the-variants.{None as FaultNone, At as FaultAt}
-use lib.Dec.{T}
-use lib.IntN.{ℤ, _+ℤ_, _*ℤ_}
-use lib.Ieee.Scale.{finite}
-use Rattle.double.specs.Worth.{mag, worth}
+use lib.IntN.{_+ℤ_, _*ℤ_}
+use Rattle.double.specs.Worth.{worth}
 use Rattle.geometry.specs.Product.{unit, roundoffOf, pairOf}
 
 -- ---- of the exact product
 
--- Factors whose product has a roundoff that is a double: powers of two 2 ^ i and 2 ^ j divide them whose product is a whole number of
--- units, each is at most 2 ^ 990, and the product is below 2 ^ 1023. A zero is divided by every power.
-pub record Factors (x y : Float) : Type 0 where
-  pub x-finite : T (finite x)
-  pub y-finite : T (finite y)
-  pub i : ℕ
-  pub j : ℕ
-  pub x-grain : 2 ^ i ∣ mag binary64 x
-  pub y-grain : 2 ^ j ∣ mag binary64 y
-  pub whole : 1074 ≤ i + j
-  pub x-small : mag binary64 x ≤ 2 ^ 2064
-  pub y-small : mag binary64 y ≤ 2 ^ 2064
-  pub small : mag binary64 x * mag binary64 y < 2 ^ 3171
-
--- Side 12: the pair, and that nothing is lost: in squares of units it is the product
+-- Side 12: the pair, and that nothing is lost: in squares of units it is the product. What is asked of the factors is double's `Factors`.
 pub record ExactProduct (x y : Float) (pair : List Float) : Type 0 where
   pub pair-is : pair ≡ pairOf x y
   pub exact : (worth (mul binary64 x y) +ℤ worth (roundoffOf x y)) *ℤ unit ≡ worth x *ℤ worth y

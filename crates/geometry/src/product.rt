@@ -1,8 +1,9 @@
 // Exact products: a rounded product and its roundoff, by a splitting constant and subtractions. (Veltkamp 1968, Dekker 1971.)
 ghost use mathlib.Core.Path.{_≡_};
 ghost use Rattle.double.proofs.Laws.Splitting.{highHalf};
+ghost use Rattle.double.proofs.Laws.ExactProduct.{Factors};
 ghost use Rattle.geometry.specs.Product.{productsOf, flatOf, summandsOf};
-ghost use Rattle.geometry.specs.Parts.{Factors, ExactProduct};
+ghost use Rattle.geometry.specs.Parts.{ExactProduct};
 ghost use Rattle.geometry.specs.Side.{Accepted};
 use point::Point;
 

@@ -5,7 +5,7 @@
 use mathlib.Core.Path.{_≡_, refl, sym, ap, ap₂, _∙_, subst}
 use mathlib.Core.Bool.{Bool, true, false, not}
 use mathlib.Core.Logic.{inl, inr}
-use Prim.Native.Nat.{ℕ, _+_, _-_, _*_, _^_, _≤_, _<_, _∣_}
+use Prim.Native.Nat.{ℕ, suc, _+_, _-_, _*_, _^_, _≤_, _<_, _∣_}
 use native.Mathlib.Nat.{le-of-eq, le-of-lt, lt-of-le-of-lt, lt-of-lt-of-le, eq-zero-or-pos, mul-le-mul, mul-lt-mul-of-pos-right, dvd-zero}
 use native.Mathlib.Nat.{eq-of-mul-eq-mul-right, add-comm, add-mul, zero-mul, mul-zero, mul-assoc, mul-right-comm, mul-mul-mul-comm}
 use native.Mathlib.Omega.{arith}
@@ -22,10 +22,14 @@ use Rattle.double.proofs.Laws.ProductSign.{mul-signBit}
 use Rattle.double.proofs.Laws.Scaled.{Scaled}
 use Rattle.double.proofs.Laws.Splitting.{Room, room-le, room-pow, digits-none, mul-double, mul-double-round}
 use Rattle.double.proofs.Laws.Dekker.{lastDifference, dekker}
-use Rattle.double.proofs.Laws.Significand.{Significand, significand, significands-rounded, high-product}
+use Rattle.double.proofs.Laws.Significand.{factorMost, Significand, significand, significands-rounded, high-product}
 
--- ---- what is asked: 2 ^ i divides x, 2 ^ j divides y, and they make up a unit; each factor is at most 2 ^ 990, and the product below
--- 2 ^ 1023. Any power of two divides a zero.
+-- ---- what is asked
+-- the product is below 2 ^ productMost squares of units, which is 2 ^ 1023
+abbrev pub productMost : ℕ
+productMost = 3171
+
+-- 2 ^ i divides x, 2 ^ j divides y, and they make up a unit; neither is too large, nor is the product. Any power of two divides a zero.
 pub record Factors (x y : Float) : Type 0 where
   pub x-real : Real binary64 x
   pub y-real : Real binary64 y
@@ -34,9 +38,9 @@ pub record Factors (x y : Float) : Type 0 where
   pub x-grain : 2 ^ i ∣ mag binary64 x
   pub y-grain : 2 ^ j ∣ mag binary64 y
   pub whole : 1074 ≤ i + j
-  pub x-small : mag binary64 x ≤ 2 ^ 2064
-  pub y-small : mag binary64 y ≤ 2 ^ 2064
-  pub small : mag binary64 x * mag binary64 y < 2 ^ 3171
+  pub x-small : mag binary64 x ≤ 2 ^ factorMost
+  pub y-small : mag binary64 y ≤ 2 ^ factorMost
+  pub small : mag binary64 x * mag binary64 y < 2 ^ productMost
 
 -- ---- x + 0.0 is worth what x is, and +0 where x is a zero
 abbrev tidied : Float → Float
@@ -77,7 +81,7 @@ scales X Y m n g h t p q =
 abbrev down : ℕ
 down = 1074 + (53 + 53)
 
-product-room : (X Y m n g h : ℕ) → X * 2 ^ 53 ≡ m * 2 ^ g → Y * 2 ^ 53 ≡ n * 2 ^ h → X * Y < 2 ^ 3171 → Room down (g + h) (m * n * 2)
+product-room : (X Y m n g h : ℕ) → X * 2 ^ 53 ≡ m * 2 ^ g → Y * 2 ^ 53 ≡ n * 2 ^ h → X * Y < 2 ^ productMost → Room down (g + h) (m * n * 2)
 unfolding Room
 product-room X Y m n g h p q b =
     lt-of-le-of-lt
@@ -116,7 +120,7 @@ abbrev pub roundoff : Float → Float → Float
 roundoff x y = tidied (lastDifference (mul binary64 x y) x y)
 
 module _ (x y : Float) (i j : ℕ) (whole : 1074 ≤ i + j) (X : Significand i x) (Y : Significand j y)
-    (small : mag binary64 x * mag binary64 y < 2 ^ 3171) where
+    (small : mag binary64 x * mag binary64 y < 2 ^ productMost) where
   grains : i + j ≡ i + j - 1074 + 1074
   grains = omega arith
 
@@ -158,7 +162,7 @@ module _ (x y : Float) (i j : ℕ) (whole : 1074 ≤ i + j) (X : Significand i x
             ∙ ap (λ (n : ℕ). mag binary64 x * mag binary64 y + n * 2 ^ 1074) (sym (t .other));
       }
 
-  run-zero : X .m * Y .m ≡ 0 → X .h * Y .h ≡ 0 → X .z + Y .z ≤ 2065 → Exact x y (mul binary64 x y) (roundoff x y)
+  run-zero : X .m * Y .m ≡ 0 → X .h * Y .h ≡ 0 → X .z + Y .z ≤ suc factorMost → Exact x y (mul binary64 x y) (roundoff x y)
   run-zero p q l =
       let room : Room down (X .z + Y .z) (2 ^ 81) = room-pow down (X .z + Y .z) 81 (fit (X .z + Y .z) l) in
       let u : Room down (X .z + Y .z) 0 = room-le down (X .z + Y .z) room (lit≤ tt) in
@@ -167,7 +171,7 @@ module _ (x y : Float) (i j : ℕ) (whole : 1074 ≤ i + j) (X : Significand i x
       (X .halved .at) (Y .halved .at) 0 0 (omega arith) (omega arith) digits-none digits-none u u)
       (dvd-zero (2 ^ 52)) (omega arith) (lit≤ tt) (omega arith) room
     where
-      fit : (z : ℕ) → z ≤ 2065 → 81 + z < 2098 + (1074 + (53 + 53))
+      fit : (z : ℕ) → z ≤ suc factorMost → 81 + z < 2098 + (1074 + (53 + 53))
       fit z h = omega arith
 
   run-full : 2 ^ 52 ≤ X .m → 2 ^ 52 ≤ Y .m → Exact x y (mul binary64 x y) (roundoff x y)

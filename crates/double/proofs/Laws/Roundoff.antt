@@ -16,7 +16,8 @@ use Rattle.double.proofs.Laws.Digits.{gap}
 use Rattle.double.proofs.Laws.Rounding.{rn, rn-dvd, rn-error-of}
 use Rattle.double.proofs.Laws.Worth.{worth-up, worth-dn}
 use Rattle.double.proofs.Laws.Signed.{part, part-both, part-own}
-use Rattle.double.proofs.Laws.ExactProduct.{Factors, Exact, roundoff}
+use Rattle.double.proofs.Laws.Significand.{factorMost}
+use Rattle.double.proofs.Laws.ExactProduct.{productMost, Factors, Exact, roundoff}
 use Rattle.double.proofs.Laws.Sized.{Sized, Sided, Reach, sized-of, sided-own, split-mag}
 use Rattle.double.proofs.Laws.Sized.{unitsOf, units-whole, units-grain, mul-sided}
 
@@ -53,7 +54,7 @@ exact-worth {x} {y} {r} {e} E =
 
 -- ---- the condition
 pub factors-of : (g1 b1 g2 b2 : ℕ) {x y : Float} → Sized g1 b1 x → Sized g2 b2 y
-    → 1074 ≤ g1 + g2 → b1 ≤ 2064 → b2 ≤ 2064 → b1 + b2 < 3171 → Factors x y
+    → 1074 ≤ g1 + g2 → b1 ≤ factorMost → b2 ≤ factorMost → b1 + b2 < productMost → Factors x y
 factors-of g1 b1 g2 b2 rx ry w h k l = record {
   x-real = rx .real;
   y-real = ry .real;

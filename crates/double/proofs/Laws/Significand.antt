@@ -21,6 +21,10 @@ use Rattle.double.proofs.Laws.Halves.{Halves}
 use Rattle.double.proofs.Laws.Scaled.{Scaled}
 use Rattle.double.proofs.Laws.Splitting.{room-pow, Halved, halved-full, halved-zero, highOf}
 
+-- a factor of the exact product is at most 2 ^ factorMost units, which is 2 ^ 990
+abbrev pub factorMost : ℕ
+factorMost = 2064
+
 -- x is m * 2 ^ z / 2 ^ 53 units and a multiple of 2 ^ k units; its halves are h and p - n at the same scale
 pub record Significand (k : ℕ) (x : Float) : Type 0 where
   pub z : ℕ
@@ -29,7 +33,7 @@ pub record Significand (k : ℕ) (x : Float) : Type 0 where
   pub p : ℕ
   pub n : ℕ
   pub halved : Halved k 53 z (signBit x) x m h p n
-  pub high : z ≤ 2065
+  pub high : z ≤ suc factorMost
   pub digits : ((m ≡ 0) × (h ≡ 0) × (z ≡ 0)) ⊎ (2 ^ 52 ≤ m)
 
 -- ---- a number of 53 digits or fewer, moved to 53
@@ -74,10 +78,10 @@ own-scaled k z m x r d e =
       grain-other = subst (λ (n : ℕ). 2 ^ k ∣ n) (sym (o .1)) (dvd-zero (2 ^ k));
     }
 
-pub significand : (k : ℕ) (x : Float) → Real binary64 x → 2 ^ k ∣ mag binary64 x → mag binary64 x ≤ 2 ^ 2064 → Significand k x
+pub significand : (k : ℕ) (x : Float) → Real binary64 x → 2 ^ k ∣ mag binary64 x → mag binary64 x ≤ 2 ^ factorMost → Significand k x
 significand k x r d b = go (mag binary64 x) refl
   where
-    room : (z : ℕ) → z ≤ 2065 → 81 + z < 2098 + 53
+    room : (z : ℕ) → z ≤ suc factorMost → 81 + z < 2098 + 53
     room z h = omega arith
 
     go : (X : ℕ) → mag binary64 x ≡ X → Significand k x
@@ -96,8 +100,9 @@ significand k x r d b = go (mag binary64 x) refl
         let m : ℕ = X * 2 ^ 53 / 2 ^ size X in
         let rep : Rep 53 X = subst (λ (n : ℕ). Rep 53 n) e (mag-rep binary64 x r) in
         let N : 0 < X = zero-lt-suc n in
-        let hi : size X ≤ 2065 =
-        size-le X 2065 (lt-of-le-of-lt (le-trans (le-of-eq (sym e)) b) (pow-lt {i = 2064} {j = 2065} (lit≤ tt))) in
+        let hi : size X ≤ suc factorMost =
+        size-le X (suc factorMost)
+        (lt-of-le-of-lt (le-trans (le-of-eq (sym e)) b) (pow-lt {i = factorMost} {j = suc factorMost} (lit≤ tt))) in
         record {
           z = size X;
           m = m;

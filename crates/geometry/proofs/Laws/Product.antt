@@ -18,14 +18,14 @@ use Rattle.double.proofs.Laws.Worth.{worth-up, worth-dn, doubleOf-worth-own}
 use Rattle.double.proofs.Laws.Sum.{neg-plus, neg-minus, neg-mag, neg-real}
 use Rattle.double.proofs.Laws.Zero.{plusZero}
 use Rattle.double.proofs.Laws.Dekker.{lastDifference}
-use Rattle.double.proofs.Laws.ExactProduct.{Exact, roundoff, exact-product}
+use Rattle.double.proofs.Laws.ExactProduct.{Factors, Exact, roundoff, exact-product}
 use Rattle.double.proofs.Laws.Sized.{Sized, Reach, reach-of, sized-of, sided-own, mul-sided}
 use Rattle.double.proofs.Laws.Roundoff.{exact-worth, factors-reach, roundoff-sized}
 use Rattle.point.specs.declared.Point.{Point}
 use Rattle.point.specs.Accepted.{reach}
 use Rattle.point.proofs.Laws.Accepted.{accepted-real, accepted-range}
 use Rattle.geometry.specs.Product.{unit, roundoffOf}
-use Rattle.geometry.specs.Parts.{Factors, ExactProduct}
+use Rattle.geometry.specs.Parts.{ExactProduct}
 use Rattle.geometry.specs.Side.{Accepted}
 
 -- ---- a quotient without remainder
@@ -63,21 +63,10 @@ unfolding ofBits
 zero-pattern = refl
 
 -- what the code returns is what it promises
-pub product-promised : (x y : Float) → T (fits binary64 x) → T (fits binary64 y) → Factors x y
+pub product-promised : (x y : Float) → Factors x y
     → ExactProduct x y (mul binary64 x y ∷ add binary64 (lastDifference (mul binary64 x y) x y) (ofBits binary64 0) ∷ [])
-product-promised x y s t F =
-    let E = exact-product x y (record {
-      x-real = record { fin = F .x-finite; fit = s };
-      y-real = record { fin = F .y-finite; fit = t };
-      i = F .i;
-      j = F .j;
-      x-grain = F .x-grain;
-      y-grain = F .y-grain;
-      whole = F .whole;
-      x-small = F .x-small;
-      y-small = F .y-small;
-      small = F .small;
-    }) in
+product-promised x y F =
+    let E = exact-product x y F in
     record {
       pair-is = ap (λ (e : Float). mul binary64 x y ∷ e ∷ [])
           (ap (λ (z : Float). add binary64 (lastDifference (mul binary64 x y) x y) z) zero-pattern ∙ roundoff-is x y E);
@@ -125,22 +114,6 @@ pub record Paired (k : ℕ) (x y : Float) : Type 0 where
   pub exact : (worth (mul binary64 x y) +ℤ worth (roundoffOf x y)) *ℤ unit ≡ worth x *ℤ worth y
 
 module _ (k : ℕ) (room : k ≤ 485) (x y : Float) (X : Reach k x) (Y : Reach k y) where
-  pub reach-factors : Factors x y
-  reach-factors =
-      let F = factors-reach k room X Y in
-      record {
-        x-finite = F .x-real .fin;
-        y-finite = F .y-real .fin;
-        i = F .i;
-        j = F .j;
-        x-grain = F .x-grain;
-        y-grain = F .y-grain;
-        whole = F .whole;
-        x-small = F .x-small;
-        y-small = F .y-small;
-        small = F .small;
-      }
-
   pub reach-paired : Paired k x y
   reach-paired =
       let l : ℕ = 1022 - k in

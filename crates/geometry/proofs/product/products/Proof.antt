@@ -4,8 +4,9 @@ use mathlib.Core.Bool.{Bool, true}
 use mathlib.Core.List.{List, [], _∷_}
 use lib.Dec.{T, lit≤}
 use lib.Ieee.{Float}
+use Rattle.double.proofs.Laws.Roundoff.{factors-reach}
 use Rattle.point.specs.Accepted.{reach}
-use Rattle.geometry.proofs.Laws.Product.{Within, accepted-within, reach-neg, reach-factors}
+use Rattle.geometry.proofs.Laws.Product.{Within, accepted-within, reach-neg}
 use Rattle.geometry.proofs.product.products.Statement.{statement}
 use Rattle.geometry.proofs.product.products.Tie as tie
 use Rattle.geometry.proofs.product.products.Reads as reads
@@ -26,32 +27,32 @@ r-within : (c : tie.Start) → Within reach (c .args .r)
 r-within c = accepted-within (c .args .r) (held (c .good .1 .1 .0 .1 .1 .0 .1)) (held (c .good .1 .1 .0 .1 .1 .1 .0 .1)) (c .pre .2)
 
 exact-product-requires : tie.Need-exact-product-requires
-exact-product-requires c κs = reach-factors reach (lit≤ tt) _ _ (q-within c .x) (r-within c .y)
+exact-product-requires c κs = factors-reach reach (lit≤ tt) (q-within c .x) (r-within c .y)
 
 exact-product-requires-2 : tie.Need-exact-product-requires-2
 exact-product-requires-2 c κs =
     let s = c .before .before in
-    reach-factors reach (lit≤ tt) _ _ (reach-neg reach _ (q-within s .x)) (p-within s .y)
+    factors-reach reach (lit≤ tt) (reach-neg reach _ (q-within s .x)) (p-within s .y)
 
 exact-product-requires-3 : tie.Need-exact-product-requires-3
 exact-product-requires-3 c κs =
     let s = c .before .before .before .before in
-    reach-factors reach (lit≤ tt) _ _ (reach-neg reach _ (p-within s .x)) (r-within s .y)
+    factors-reach reach (lit≤ tt) (reach-neg reach _ (p-within s .x)) (r-within s .y)
 
 exact-product-requires-4 : tie.Need-exact-product-requires-4
 exact-product-requires-4 c κs =
     let s = c .before .before .before .before .before .before in
-    reach-factors reach (lit≤ tt) _ _ (reach-neg reach _ (q-within s .y)) (r-within s .x)
+    factors-reach reach (lit≤ tt) (reach-neg reach _ (q-within s .y)) (r-within s .x)
 
 exact-product-requires-5 : tie.Need-exact-product-requires-5
 exact-product-requires-5 c κs =
     let s = c .before .before .before .before .before .before .before in
-    reach-factors reach (lit≤ tt) _ _ (q-within s .y) (p-within s .x)
+    factors-reach reach (lit≤ tt) (q-within s .y) (p-within s .x)
 
 exact-product-requires-6 : tie.Need-exact-product-requires-6
 exact-product-requires-6 c κs =
     let s = c .before .before .before .before .before .before .before .before in
-    reach-factors reach (lit≤ tt) _ _ (p-within s .y) (r-within s .x)
+    factors-reach reach (lit≤ tt) (p-within s .y) (r-within s .x)
 
 six : {a b c d e f t u v w x y : List Float} → a ≡ t → b ≡ u → c ≡ v → d ≡ w → e ≡ x → f ≡ y
     → a ∷ b ∷ c ∷ d ∷ e ∷ f ∷ [] ≡ t ∷ u ∷ v ∷ w ∷ x ∷ y ∷ []
