@@ -11,14 +11,14 @@ pub mod Exact
 pub mod Side
 -- comparisons of doubles by what they are worth
 pub mod Worths
+-- the points of a flat list
+pub mod Corners
 -- the edges of a zone, and one edge and a point
 pub mod Edges
 -- the walk and the count over all edges, and the refusals of a zone
 pub mod Zone
 -- what a side and a zone can come to, by cases
 pub mod Outcomes
--- the points of a flat list
-pub mod Corners
 -- a zone that is answered
 pub mod Answered
 -- where a point lies: off every edge, or on a first one

@@ -2,7 +2,7 @@
 use Prim.Native.Nat.{ℕ, _+_, _*_, _/_, _%_, _≤_, _<_}
 use mathlib.Core.Path.{_≡_}
 use mathlib.Core.Bool.{cond}
-use mathlib.Core.List.{List, [], _∷_}
+use mathlib.Core.List.{List, [], _∷_, map}
 use lib.Dec.{eqb, leb, ltb}
 use lib.ListN.{length, getD}
 use lib.Ieee.{Float, nan}
@@ -36,11 +36,10 @@ pointsOf [] = []
 pointsOf (x ∷ []) = []
 pointsOf (x ∷ y ∷ rest) = record { x = x; y = y } ∷ pointsOf rest
 
+-- and what they are worth
 unfoldable pub cornersOf : List Float → List Spot
-unfolding worth
-cornersOf [] = []
-cornersOf (x ∷ []) = []
-cornersOf (x ∷ y ∷ rest) = spotOf (record { x = x; y = y }) ∷ cornersOf rest
+unfolding pointsOf worth
+cornersOf xs = map spotOf (pointsOf xs)
 
 -- Zone 9: the place of a point in the zone of these corners
 unfoldable pub placeIn : List Float → Point → Lies

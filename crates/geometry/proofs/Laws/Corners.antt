@@ -14,13 +14,20 @@ corners-count [] = refl
 corners-count (x ∷ []) = refl
 corners-count (x ∷ y ∷ xs) = omega (arith, corners-count xs)
 
+-- corner k is the next after two coordinates more
+pub corner-later : (x y : Float) (xs : List Float) (k : ℕ) → cornerAt xs k ≡ cornerAt (x ∷ y ∷ xs) (suc k)
+corner-later x y xs k =
+    ap₂ (λ (a b : ℕ). let p : Point = record { x = getD (x ∷ y ∷ xs) a nan; y = getD (x ∷ y ∷ xs) b nan } in p) even odd
+  where
+    even : suc (suc (2 * k)) ≡ 2 * suc k
+    even = omega arith
+
+    odd : suc (suc (2 * k + 1)) ≡ 2 * suc k + 1
+    odd = omega arith
+
 pub corners-entry : (xs : List Float) (k : ℕ) (other : Point) → k < length xs / 2 → getD (pointsOf xs) k other ≡ cornerAt xs k
 unfolding pointsOf
 corners-entry [] k other h = let z : ⊥ = omega arith in absurd z
 corners-entry (x ∷ []) k other h = let z : ⊥ = omega arith in absurd z
 corners-entry (x ∷ y ∷ xs) zero other h = refl
-corners-entry (x ∷ y ∷ xs) (suc k) other h =
-    let first : suc (suc (2 * k)) ≡ 2 * suc k = omega arith in
-    let second : suc (suc (2 * k + 1)) ≡ 2 * suc k + 1 = omega arith in
-    corners-entry xs k other (omega arith)
-    ∙ ap₂ (λ (a b : ℕ). let p : Point = record { x = getD (x ∷ y ∷ xs) a nan; y = getD (x ∷ y ∷ xs) b nan } in p) first second
+corners-entry (x ∷ y ∷ xs) (suc k) other h = corners-entry xs k other (omega arith) ∙ corner-later x y xs k

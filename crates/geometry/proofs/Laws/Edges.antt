@@ -7,8 +7,8 @@ use Prim.Native.Nat.{ℕ, zero, suc, _+_, _*_, _<_}
 use native.Mathlib.Numerals.{add-one}
 use native.Mathlib.Omega.{arith}
 use lib.Dec.{ltb}
-use lib.ListN.{length, drop, getD}
-use lib.Ieee.{Float, nan, lt, le}
+use lib.ListN.{length, drop, length-map}
+use lib.Ieee.{Float, lt, le}
 use borrow.Author.Tests.{ltb-true, ltb-false}
 use Rattle.point.specs.declared.Point.{Point}
 use Rattle.whole.specs.Sign.{sgn}
@@ -20,7 +20,8 @@ use Rattle.sum.specs.declared.answer.Sign.{Sign}
 use Rattle.ground.proofs.Laws.Compare.{below-not, sgn-is-zero, sgn-is-positive, sgn-is-negative}
 use Rattle.geometry.specs.Spot.{spotOf}
 use Rattle.geometry.specs.Parts.{liesBetween, InBox, Rises, Falls, crossingOf}
-use Rattle.geometry.specs.Zone.{cornersOf, cornerAt, nextOf}
+use Rattle.geometry.specs.Zone.{pointsOf, cornersOf, cornerAt, nextOf}
+use Rattle.geometry.proofs.Laws.Corners.{corners-count, corner-later}
 use Rattle.geometry.proofs.Laws.Worths.{RealPoint, le-worth, lt-worth, between-worth}
 use Rattle.geometry.specs.declared.edges.Crossing.{Crossing}
 use Rattle.geometry.specs.declared.edges.Crossing.the-variants.{None, Up, Down}
@@ -33,14 +34,8 @@ corner x y = spotOf (record { x = x; y = y })
 abbrev spotAt : List Float → ℕ → Spot
 spotAt xs k = spotOf (cornerAt xs k)
 
-corner-later : (x y : Float) (xs : List Float) (k : ℕ) → spotAt xs k ≡ spotAt (x ∷ y ∷ xs) (suc k)
-corner-later x y xs k = ap₂ (λ (i j : ℕ). corner (getD (x ∷ y ∷ xs) i nan) (getD (x ∷ y ∷ xs) j nan)) even odd
-  where
-    even : suc (suc (2 * k)) ≡ 2 * suc k
-    even = omega arith
-
-    odd : suc (suc (2 * k + 1)) ≡ 2 * suc k + 1
-    odd = omega arith
+spot-later : (x y : Float) (xs : List Float) (k : ℕ) → spotAt xs k ≡ spotAt (x ∷ y ∷ xs) (suc k)
+spot-later x y xs k = ap spotOf (corner-later x y xs k)
 
 -- an edge to the next corner
 edges-inner : (first : Spot) (x y : Float) (xs : List Float) (k : ℕ) → 2 * k + 1 < length xs
@@ -53,7 +48,7 @@ edges-inner first x y (u ∷ v ∷ xs) zero h = refl
 edges-inner first x y (u ∷ v ∷ xs) (suc k) h =
     edges-inner first u v xs k (omega arith)
     ∙ ap₂ (λ (a b : Spot). edge a b ∷ drop (suc k) (edgesFrom first (corner u v) (cornersOf xs)))
-    (corner-later x y (u ∷ v ∷ xs) k) (corner-later x y (u ∷ v ∷ xs) (suc k))
+    (spot-later x y (u ∷ v ∷ xs) k) (spot-later x y (u ∷ v ∷ xs) (suc k))
 
 -- the last edge closes the row
 edges-last : (first : Spot) (x y : Float) (xs : List Float) (k : ℕ) → length xs ≡ 2 * k
@@ -66,7 +61,7 @@ edges-last first x y (u ∷ []) k h = let z : ⊥ = omega arith in absurd z
 edges-last first x y (u ∷ v ∷ xs) zero h = let z : ⊥ = omega arith in absurd z
 edges-last first x y (u ∷ v ∷ xs) (suc k) h =
     edges-last first u v xs k (omega arith)
-    ∙ ap (λ (a : Spot). edge a first ∷ drop (suc k) (edgesFrom first (corner u v) (cornersOf xs))) (corner-later x y (u ∷ v ∷ xs) k)
+    ∙ ap (λ (a : Spot). edge a first ∷ drop (suc k) (edgesFrom first (corner u v) (cornersOf xs))) (spot-later x y (u ∷ v ∷ xs) k)
 
 pub edges-drop : (xs : List Float) (n k : ℕ) → length xs ≡ 2 * n → k < n
     → drop k (edgesOf (cornersOf xs)) ≡ edge (spotAt xs k) (spotAt xs (nextOf n k)) ∷ drop (k + 1) (edgesOf (cornersOf xs))
@@ -95,10 +90,7 @@ edgesFrom-length first a (b ∷ rest) = ap suc (edgesFrom-length first b rest)
 
 corners-length : (xs : List Float) (n : ℕ) → length xs ≡ 2 * n → length (cornersOf xs) ≡ n
 unfolding cornersOf
-corners-length [] n e = omega arith
-corners-length (x ∷ []) n e = omega arith
-corners-length (x ∷ y ∷ xs) zero e = omega arith
-corners-length (x ∷ y ∷ xs) (suc n) e = ap suc (corners-length xs n (omega arith))
+corners-length xs n e = length-map (pointsOf xs) spotOf ∙ omega (arith, corners-count xs)
 
 pub edges-length : (xs : List Float) (n : ℕ) → length xs ≡ 2 * n → length (edgesOf (cornersOf xs)) ≡ n
 unfolding edgesOf

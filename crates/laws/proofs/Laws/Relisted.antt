@@ -1,7 +1,7 @@
 -- A zone listed from another corner, or backwards, of the very same doubles: it is answered where the first is, and with the same of the three
 -- places. In order: what a flat list of corners is worth; accepted coordinates of another list; the law. Assumes nothing.
 use mathlib.Core.Path.{_≡_, refl, sym, ap, _∙_, subst}
-use mathlib.Core.List.{List, [], _∷_, _++_, reverse, reverse-cons}
+use mathlib.Core.List.{List, [], _∷_, _++_, map, map-append, reverse, reverse-cons}
 use mathlib.Core.Logic.{inl, inr}
 use Prim.Native.Nat.{_+_, _*_}
 use native.Mathlib.Nat.{add-comm}
@@ -19,36 +19,33 @@ use Rattle.geometry.specs.declared.answer.Place.{Place}
 use Rattle.geometry.specs.declared.answer.Zone.{Zone}
 use Rattle.geometry.specs.declared.answer.Zone.the-variants.{At, Refused}
 use Rattle.geometry.proofs.Laws.Answered.{AllAccepted, zone-answered, answered-zone}
-use Rattle.laws.specs.Corners.{flatOf, spotsOf}
+use Rattle.laws.specs.Corners.{flatOf}
 use Rattle.laws.proofs.Laws.Zones.{zone-relisted}
 
 -- ---- what a flat list of corners is worth
-corners-flat : (cs : List Point) → cornersOf (flatOf cs) ≡ spotsOf cs
+corners-flat : (cs : List Point) → cornersOf (flatOf cs) ≡ map spotOf cs
 unfolding cornersOf
 corners-flat [] = refl
 corners-flat (c ∷ cs) = ap (λ (ds : List Spot). spotOf c ∷ ds) (corners-flat cs)
 
-spots-append : (cs ds : List Point) → spotsOf (cs ++ ds) ≡ spotsOf cs ++ spotsOf ds
-spots-append [] ds = refl
-spots-append (c ∷ cs) ds = ap (λ (es : List Spot). spotOf c ∷ es) (spots-append cs ds)
-
-spots-reverse : (cs : List Point) → spotsOf (reverse cs) ≡ reverse (spotsOf cs)
+spots-reverse : (cs : List Point) → map spotOf (reverse cs) ≡ reverse (map spotOf cs)
 spots-reverse [] = refl
 spots-reverse (c ∷ cs) =
-    ap spotsOf (reverse-cons c cs) ∙ spots-append (reverse cs) (c ∷ []) ∙ ap (λ (es : List Spot). es ++ spotOf c ∷ []) (spots-reverse cs)
-    ∙ sym (reverse-cons (spotOf c) (spotsOf cs))
+    ap (map spotOf) (reverse-cons c cs) ∙ map-append spotOf (reverse cs) (c ∷ [])
+    ∙ ap (λ (es : List Spot). es ++ spotOf c ∷ []) (spots-reverse cs) ∙ sym (reverse-cons (spotOf c) (map spotOf cs))
 
-turned-spots : (cs ds : List Point) → Turned cs ds → Turned (spotsOf cs) (spotsOf ds)
+turned-spots : (cs ds : List Point) → Turned cs ds → Turned (map spotOf cs) (map spotOf ds)
 turned-spots cs ds t = record {
-  front = spotsOf (t .front);
-  back = spotsOf (t .back);
-  one = ap spotsOf (t .one) ∙ spots-append (t .front) (t .back);
-  other = ap spotsOf (t .other) ∙ spots-append (t .back) (t .front);
+  front = map spotOf (t .front);
+  back = map spotOf (t .back);
+  one = ap (map spotOf) (t .one) ∙ map-append spotOf (t .front) (t .back);
+  other = ap (map spotOf) (t .other) ∙ map-append spotOf (t .back) (t .front);
 }
 
-relisted-spots : (cs ds : List Point) → Relisted cs ds → Relisted (spotsOf cs) (spotsOf ds)
+relisted-spots : (cs ds : List Point) → Relisted cs ds → Relisted (map spotOf cs) (map spotOf ds)
 relisted-spots cs ds (inl t) = inl (turned-spots cs ds t)
-relisted-spots cs ds (inr t) = inr (subst (λ (es : List Spot). Turned es (spotsOf ds)) (spots-reverse cs) (turned-spots (reverse cs) ds t))
+relisted-spots cs ds (inr t) =
+    inr (subst (λ (es : List Spot). Turned es (map spotOf ds)) (spots-reverse cs) (turned-spots (reverse cs) ds t))
 
 -- ---- accepted coordinates, and how many
 flat-length : (cs : List Point) → length (flatOf cs) ≡ 2 * length cs
@@ -107,7 +104,7 @@ relisted-answers cs ds p l (At m) r h k = (
   refl,
   zone-relisted (flatOf cs) (flatOf ds) p l m
       (subst (λ (es : List Spot). Relisted es (cornersOf (flatOf ds))) (sym (corners-flat cs))
-      (subst (λ (es : List Spot). Relisted (spotsOf cs) es) (sym (corners-flat ds)) (relisted-spots cs ds r))) h k,
+      (subst (λ (es : List Spot). Relisted (map spotOf cs) es) (sym (corners-flat ds)) (relisted-spots cs ds r))) h k,
 )
 relisted-answers cs ds p l (Refused f) r h k =
     let a = zone-answered (flatOf cs) p (placeSaid l) (sym h) in
