@@ -73,8 +73,8 @@ unfolding passingFrom acceptedWithin turnOf
 sideOf p q r = acceptingFrom 0 (sixOf p q r) (turnOf p q r)
 
 -- the promise of `side`
-pub record SideSays (p q r : Point) (s : Side) : Type 0 where
-  pub answer : said s ≡ sideOf p q r
+abbrev pub SideSays : Point → Point → Point → Side → Type 0
+SideSays p q r s = said s ≡ sideOf p q r
 
 -- Side 14: the most steps of a side; that they are never more is a law (Laws.Calls)
 abbrev pub mostSteps : ℕ

@@ -46,7 +46,7 @@ use Rattle.geometry.proofs.Laws.Answered.{zone-answered, zoned-answers}
 pub side-refused : (p q r : Point) (s : Side) → SideSays p q r s
     → (f : Refusal) → (s ≡ Refused f) ↔ SideRefusedAs p q r (f .number) (f .place)
 unfolding said sideOf
-side-refused p q r s h f = (λ e. found (sym (h .answer) ∙ ap said e), λ w. only s (h .answer ∙ refused w))
+side-refused p q r s h f = (λ e. found (sym h ∙ ap said e), λ w. only s (h ∙ refused w))
   where
     found : sideOf p q r ≡ refuses (f .number) (f .place) → SideRefusedAs p q r (f .number) (f .place)
     found e =
@@ -66,13 +66,13 @@ side-refused p q r s h f = (λ e. found (sym (h .answer) ∙ ap said e), λ w. o
 pub side-answers : (p q r : Point) (s : Side) → Accepted p → Accepted q → Accepted r → SideSays p q r s → (t : Turn) × (s ≡ Of t)
 unfolding said
 side-answers p q r (Of t) P Q R h = (t, refl)
-side-answers p q r (Refused f) P Q R h = no-refusal (h .answer ∙ sym (side-turn p q r P Q R))
+side-answers p q r (Refused f) P Q R h = no-refusal (h ∙ sym (side-turn p q r P Q R))
 
 -- ---- an answered side
 module _ (p q r : Point) (t : Turn) (P : OfDoubles p) (Q : OfDoubles q) (R : OfDoubles r) (h : SideSays p q r (Of t)) where
   passed : AllPass acceptedOf nan (sixOf p q r) × (turnOf p q r ≡ turnSaid t)
   unfolding said sideOf
-  passed = passing-answered acceptedOf notAccepted nan (turnOf p q r) 0 (sixOf p q r) (turnSaid t) (sym (h .answer))
+  passed = passing-answered acceptedOf notAccepted nan (turnOf p q r) 0 (sixOf p q r) (turnSaid t) (sym h)
 
   pub side-accepted : Accepted p × Accepted q × Accepted r
   side-accepted =

@@ -58,7 +58,7 @@ side-tabled p q r = side-outcomes (λ (o : Outcome Turned). Tabled o) (λ t. tt)
 
 pub side-refusal : (n : Refusal) (p q r : Point) → SideSays p q r (SideRefused n) → n .number ≤ 9
 unfolding said
-side-refusal n p q r e = rw (← e .answer) at (side-tabled p q r)
+side-refusal n p q r e = rw (← e) at (side-tabled p q r)
 
 zone-tabled : (corners : List Float) (p : Point) → Tabled (zoneOf corners p)
 zone-tabled corners p =

@@ -137,4 +137,4 @@ said-once (Refused a) (Of b) e = cc
 said-once (Refused a) (Refused b) e = ap Refused (refuses-once a b e)
 
 pub side-fixed : (p q r : Point) → Fixes (λ (s : Side). SideSays p q r s)
-side-fixed p q r a b e f = said-once a b (e .answer ∙ sym (f .answer))
+side-fixed p q r a b e f = said-once a b (e ∙ sym f)

@@ -44,7 +44,7 @@ returns : tie.Need-returns
 unfolding said
 returns c =
     let t = c .before in
-    record { answer = ap said (c .refused .ensures) ∙ side-px _ _ _ (refused-by (t .before .accepted .ensures) (t .if1 .taken)) }
+    ap said (c .refused .ensures) ∙ side-px _ _ _ (refused-by (t .before .accepted .ensures) (t .if1 .taken))
 
 accepted-requires-2 : tie.Need-accepted-requires-2
 accepted-requires-2 c κs = search needs
@@ -56,7 +56,7 @@ returns-2 : tie.Need-returns-2
 unfolding said
 returns-2 c =
     let t = c .before in
-    record { answer = ap said (c .refused2 .ensures) ∙ side-py _ _ _ (px (t .before .before)) (refused-by (t .before .accepted2 .ensures) (t .if2 .taken)) }
+    ap said (c .refused2 .ensures) ∙ side-py _ _ _ (px (t .before .before)) (refused-by (t .before .accepted2 .ensures) (t .if2 .taken))
 
 accepted-requires-3 : tie.Need-accepted-requires-3
 accepted-requires-3 c κs = search needs
@@ -68,7 +68,7 @@ returns-3 : tie.Need-returns-3
 unfolding said
 returns-3 c =
     let t = c .before in
-    record { answer = ap said (c .refused3 .ensures) ∙ side-qx _ _ _ (p (t .before .before)) (refused-by (t .before .accepted3 .ensures) (t .if3 .taken)) }
+    ap said (c .refused3 .ensures) ∙ side-qx _ _ _ (p (t .before .before)) (refused-by (t .before .accepted3 .ensures) (t .if3 .taken))
 
 accepted-requires-4 : tie.Need-accepted-requires-4
 accepted-requires-4 c κs = search needs
@@ -81,10 +81,8 @@ unfolding said
 returns-4 c =
     let t = c .before in
     let d = t .before .before in
-    record {
-      answer = ap said (c .refused4 .ensures)
-          ∙ side-qy _ _ _ (p (d .before .before)) (qx d) (refused-by (t .before .accepted4 .ensures) (t .if4 .taken));
-    }
+    ap said (c .refused4 .ensures)
+    ∙ side-qy _ _ _ (p (d .before .before)) (qx d) (refused-by (t .before .accepted4 .ensures) (t .if4 .taken))
 
 accepted-requires-5 : tie.Need-accepted-requires-5
 accepted-requires-5 c κs = search needs
@@ -97,10 +95,8 @@ unfolding said
 returns-5 c =
     let t = c .before in
     let d = t .before .before in
-    record {
-      answer = ap said (c .refused5 .ensures)
-          ∙ side-rx _ _ _ (p (d .before .before .before .before)) (q d) (refused-by (t .before .accepted5 .ensures) (t .if5 .taken));
-    }
+    ap said (c .refused5 .ensures)
+    ∙ side-rx _ _ _ (p (d .before .before .before .before)) (q d) (refused-by (t .before .accepted5 .ensures) (t .if5 .taken))
 
 accepted-requires-6 : tie.Need-accepted-requires-6
 accepted-requires-6 c κs = search needs
@@ -114,10 +110,8 @@ returns-6 c =
     let t = c .before in
     let d = t .before .before in
     let e = d .before .before in
-    record {
-      answer = ap said (c .refused6 .ensures)
-          ∙ side-ry _ _ _ (p (e .before .before .before .before)) (q e) (rx d) (refused-by (t .before .accepted6 .ensures) (t .if6 .taken));
-    }
+    ap said (c .refused6 .ensures)
+    ∙ side-ry _ _ _ (p (e .before .before .before .before)) (q e) (rx d) (refused-by (t .before .accepted6 .ensures) (t .if6 .taken))
 
 turn-requires : tie.Need-turn-requires
 turn-requires c κs =
@@ -129,7 +123,7 @@ unfolding said
 returns-7 c =
     let t = c .before in
     let d = t .before .before .before .before in
-    record { answer = ap (λ (t : Turned). answers t) (c .turn .ensures) ∙ side-turn _ _ _ (p (d .before .before .before .before)) (q d) (r t) }
+    ap (λ (t : Turned). answers t) (c .turn .ensures) ∙ side-turn _ _ _ (p (d .before .before .before .before)) (q d) (r t)
 
 pub side-spec : {M : Type 1} → statement M
 side-spec =

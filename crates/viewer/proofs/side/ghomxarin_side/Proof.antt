@@ -30,8 +30,7 @@ enum-known-refusal c = search needs
 
 refusal-answer-requires : tie.Need-refusal-answer-requires
 refusal-answer-requires c κs =
-    side-refusal _ _ _ _
-    (record { answer = ap said (sym (c .before .refusal .given .1)) ∙ c .before .before .before .side .ensures .answer })
+    side-refusal _ _ _ _ (ap said (sym (c .before .refusal .given .1)) ∙ c .before .before .before .side .ensures)
 
 returns : tie.Need-returns
 returns c =
@@ -39,7 +38,7 @@ returns c =
     let points = call .before in
     c .sign-answer .ensures
     ∙ side-entry-turn _ _ _ _ _ _ _ _ _ (points .before .before .point-of .ensures) (points .before .point-of2 .ensures)
-    (points .point-of3 .ensures) _ (ap said (sym (c .before .before .t .given .1)) ∙ call .side .ensures .answer)
+    (points .point-of3 .ensures) _ (ap said (sym (c .before .before .t .given .1)) ∙ call .side .ensures)
 
 returns-2 : tie.Need-returns-2
 returns-2 c =
@@ -47,7 +46,7 @@ returns-2 c =
     let points = call .before in
     c .refusal-answer .ensures
     ∙ side-entry-refused _ _ _ _ _ _ _ _ _ (points .before .before .point-of .ensures) (points .before .point-of2 .ensures)
-    (points .point-of3 .ensures) _ (ap said (sym (c .before .before .refusal .given .1)) ∙ call .side .ensures .answer)
+    (points .point-of3 .ensures) _ (ap said (sym (c .before .before .refusal .given .1)) ∙ call .side .ensures)
 
 pub ghomxarin-side-spec : {M : Type 1} → statement M
 ghomxarin-side-spec =
