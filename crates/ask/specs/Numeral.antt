@@ -1,4 +1,4 @@
--- The numbers of a question, quoted from the line tool's protocol: a double by its bit pattern, and a count.
+-- The numbers of a question to the line tool: a double by its bit pattern, and a count.
 use Prim.Native.Nat.{ℕ, _+_, _-_, _*_, _^_}
 use mathlib.Core.Bool.{Bool, _&&_, cond}
 use mathlib.Core.List.{List, [], _∷_}
@@ -33,17 +33,17 @@ unfoldable pub onward : ℕ → ℕ → List ℕ → Numeral
 onward base v [] = Value v
 onward base v (b ∷ bs) = also base (digitOf b) (λ d. onward base (base * v + d) bs)
 
--- "A double is its bit pattern, 16 hexadecimal digits; either case is read"
+-- a double: the 16 hexadecimal digits of its pattern, no more and no fewer; capitals and small letters count alike
 unfoldable pub patternOf : List ℕ → Numeral
 unfolding onward
 patternOf word = cond (eqb (length word) 16) (onward 16 0 word) Unclear
 
--- "A count is a decimal number without sign, at most 2^32 - 1"
+-- a count is below 2^32
 abbrev pub small : Numeral → Count
 small (Value v) = cond (ltb v (2 ^ 32)) (Counted v) Uncounted
 small Unclear = Uncounted
 
--- "with no leading zero but `0` itself"; so ten digits are enough
+-- and is written in decimal digits alone, no sign among them; a 0 comes first only where it is the whole word, so ten digits are enough
 unfoldable pub countOf : List ℕ → Count
 unfolding onward
 countOf [] = Uncounted
