@@ -1,9 +1,11 @@
 // Numbers of a track file: unsigned 64-bit, in groups of seven bits, the lowest first, in shortest form.
 ghost use mathlib.Core.Path.{_≡_};
 ghost use Prim.Native.Nat.{_+_, _≤_};
+ghost use mathlib.Core.Bool.{cond};
+ghost use lib.Dec.{eqb};
 ghost use lib.ListN.{length};
 ghost use lib.Seq.{sets};
-ghost use Rattle.refusal.specs.Outcome.{refuses};
+ghost use Rattle.refusal.specs.Outcome.{answers, refuses, notShortest};
 ghost use Rattle.track.specs.Number.{heard, numberOf, writtenOf};
 use refusal::ENDS_EARLY;
 use refusal::NOT_SHORTEST;
@@ -40,6 +42,19 @@ fn refused(number: u32, place: usize) -> Numeral
         number: number,
         place: place,
     })
+}
+
+// By its tenth byte: a number below 2^64 has a 1 there.
+fn tenth(b: u8, value: u64, next: usize, start: usize) -> Numeral
+    ensures { λ r. ⌜ heard r ≡ cond (eqb b 1) (answers (record { value = value; next = next })) (refuses notShortest start) ⌝ }
+{
+    if b == 1 {
+        return Numeral::Whole(Number {
+            value: value,
+            next: next,
+        });
+    }
+    refused(NOT_SHORTEST, start)
 }
 
 // The number that begins at `start`.
@@ -79,13 +94,7 @@ pub fn number_at(bytes: &[u8], start: usize) -> Numeral
     if bytes.len() <= at {
         return refused(ENDS_EARLY, start);
     }
-    if bytes[at] == 1 {
-        return Numeral::Whole(Number {
-            value: value + weight,
-            next: at + 1,
-        });
-    }
-    refused(NOT_SHORTEST, start)
+    tenth(bytes[at], value + weight, at + 1, start)
 }
 
 // How many bytes a number takes.

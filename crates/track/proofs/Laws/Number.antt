@@ -3,7 +3,7 @@
 -- refusal (Laws.Faults). Assumes nothing.
 use Prim.Native.Nat.{ℕ, zero, suc, _+_, _-_, _*_, _/_, _%_, _^_, _≤_, _<_}
 use mathlib.Core.Path.{_≡_, refl, sym, ap, _∙_}
-use mathlib.Core.Bool.{Bool, true, false, _&&_}
+use mathlib.Core.Bool.{Bool, true, false, _&&_, cond}
 use mathlib.Core.List.{List, [], _∷_, _++_}
 use native.Mathlib.Nat.{mul-comm, mul-add, mul-assoc, mul-le-mul-right, add-assoc, pow-suc, pow-le-pow-right}
 use native.Mathlib.Numerals.{add-one}
@@ -132,16 +132,16 @@ module _ (s : List ℕ) (start v w i j : ℕ) (a : At s start v w i j) where
               ∙ (λ k. onward (v + (b - 128) * w) (w * 128) (j + 1) (beginsWith (p k) (q k) (drop (i + 1) s)));
         }
 
-    pub number-last : full ≤ j → b ≡ 1 → placedAt (v + w) (i + 1) ≡ numberOf s start
+    pub number-tenth : full ≤ j → cond (eqb b 1) (placedAt (v + w) (i + 1)) (refuses notShortest start) ≡ numberOf s start
     unfolding placed beginsWith onward
-    number-last hj e =
-        let p : v + w ≡ v + w * 1 = omega arith in
-        let q : i + 1 ≡ start + (j + 1) = omega (arith, a .here) in
-        (λ k. placedAt (p k) (q k)) ∙ number-by (number 1 1) (head 0 (omega arith) ∙ cond-yes _ _ (eq-eqb _ _ e))
-
-    pub number-long : full ≤ j → (b ≡ 1 → ⊥) → refuses notShortest start ≡ numberOf s start
-    unfolding placed beginsWith onward
-    number-long hj e = number-by faulty (head 0 (omega arith) ∙ cond-no _ _ (ne-eqb _ _ e))
+    number-tenth hj = go (eqb b 1) refl
+      where
+        go : (t : Bool) → eqb b 1 ≡ t → cond t (placedAt (v + w) (i + 1)) (refuses notShortest start) ≡ numberOf s start
+        go true e =
+            let p : v + w ≡ v + w * 1 = omega arith in
+            let q : i + 1 ≡ start + (j + 1) = omega (arith, a .here) in
+            (λ k. placedAt (p k) (q k)) ∙ number-by (number 1 1) (head 0 (omega arith) ∙ cond-yes _ _ e)
+        go false e = number-by faulty (head 0 (omega arith) ∙ cond-no _ _ e)
 
 -- ---- a written number is read back
 allowed : (later : Bool) (v : ℕ) → (later ≡ true → 0 < v) → later && eqb v 0 ≡ false

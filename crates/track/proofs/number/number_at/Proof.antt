@@ -18,8 +18,7 @@ use Rattle.track.proofs.Laws.Number.{
   number-ends,
   number-zero,
   number-value,
-  number-last,
-  number-long,
+  number-tenth,
 }
 use borrow.Author.Needs.{needs}
 use Rattle.track.proofs.number.number_at.Statement.{statement}
@@ -140,31 +139,23 @@ refused-requires-3 c κs = search needs
 returns-5 : tie.Need-returns-5 Inv-loop μ-loop
 returns-5 c = c .refused3 .ensures ∙ number-ends _ _ _ _ _ _ (c .before .before .before .loop .inv) (c .before .if5 .taken)
 
-shared-slice-read-if6 : tie.Need-shared-slice-read-if6 Inv-loop μ-loop
-shared-slice-read-if6 c = search needs
+shared-slice-read-tenth : tie.Need-shared-slice-read-tenth Inv-loop μ-loop
+shared-slice-read-tenth c = search needs
 
-add-t26 : tie.Need-add-t26 Inv-loop μ-loop
-add-t26 c = omega (arith, weight-last (c .before .before .before .before .loop .inv) (c .before .before .before .loop-test .left))
+add-tenth : tie.Need-add-tenth Inv-loop μ-loop
+add-tenth c = omega (arith, weight-last (c .before .before .before .loop .inv) (c .before .before .loop-test .left))
 
-add-t27 : tie.Need-add-t27 Inv-loop μ-loop
-add-t27 c = search needs
+add-tenth-2 : tie.Need-add-tenth-2 Inv-loop μ-loop
+add-tenth-2 c = search needs
+
+tenth-requires : tie.Need-tenth-requires Inv-loop μ-loop
+tenth-requires c κs = search needs
 
 returns-6 : tie.Need-returns-6 Inv-loop μ-loop
 returns-6 c =
     let l = c .before .before .before .before in
-    number-last _ _ _ _ _ _ (l .loop .inv) (c .before .before .if5 .left) _ refl (c .before .before .before .loop-test .left)
-    (c .if6 .taken)
-
-refused-requires-4 : tie.Need-refused-requires-4 Inv-loop μ-loop
-refused-requires-4 c κs = search needs
-
-returns-7 : tie.Need-returns-7 Inv-loop μ-loop
-returns-7 c =
-    let l = c .before .before .before .before .before in
-    c .refused4 .ensures
-    ∙ number-long _ _ _ _ _ _ (l .loop .inv) (c .before .before .before .if5 .left) _ refl
-    (c .before .before .before .before .loop-test .left)
-    (c .before .if6 .left)
+    c .tenth .ensures
+    ∙ number-tenth _ _ _ _ _ _ (l .loop .inv) (c .before .before .if5 .left) _ refl (c .before .before .before .loop-test .left)
 
 pub number-at-spec : {M : Type 1} → statement M
 number-at-spec =
@@ -194,9 +185,8 @@ number-at-spec =
     loop-again
     refused-requires-3
     returns-5
-    shared-slice-read-if6
-    add-t26
-    add-t27
-    returns-6
-    refused-requires-4
-    returns-7)
+    shared-slice-read-tenth
+    add-tenth
+    add-tenth-2
+    tenth-requires
+    returns-6)
