@@ -1,4 +1,4 @@
--- The report of releases: Desk 10 of docs/RULES.md.
+-- The report of releases: Desk 2 and 10 and Order 10 of docs/RULES.md.
 use Prim.Native.Nat.{ℕ, _/_}
 use mathlib.Core.Path.{_≡_}
 use mathlib.Core.List.{List, [], _∷_}

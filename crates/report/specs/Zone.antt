@@ -1,4 +1,4 @@
--- The zone, judged from the bytes of its file: Desk 9 of docs/RULES.md.
+-- The zone, judged from the bytes of its file: Desk 9 and Order 10 of docs/RULES.md.
 use Prim.Native.Nat.{ℕ, _*_, _/_}
 use mathlib.Core.Path.{_≡_}
 use mathlib.Core.List.{List}

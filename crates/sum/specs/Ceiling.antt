@@ -17,7 +17,8 @@ use Rattle.sum.specs.declared.answer.Ceiling.the-variants.{Steps, Refuse
 abbrev pub digits : ℕ
 digits = 2098
 
--- Ceiling 1: the largest power of two that divides every entry other than a zero; where every entry is a zero, any will do
+-- Ceiling 1: the exponent of the largest power of two that divides every entry other than a zero: the fewest zeros that a magnitude in
+-- units ends with (Laws.Grain: that power divides, and no larger one); where every entry is a zero, any will do
 unfoldable pub grainOf : List Float → ℕ
 unfolding trailingZeros
 grainOf [] = digits

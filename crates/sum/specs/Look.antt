@@ -1,4 +1,4 @@
--- The look at a list, and what it decides: Sum 2 to 7 of docs/RULES.md. One definition serves both signs: the side s is false for positive
+-- The look at a list, and what it decides: Sum 2 to 8 of docs/RULES.md. One definition serves both signs: the side s is false for positive
 -- entries and true for negative ones, as a sign bit is.
 use Prim.Native.Nat.{ℕ, suc, _+_}
 use mathlib.Core.Bool.{Bool, true, false, cond, _&&_}

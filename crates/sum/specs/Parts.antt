@@ -25,7 +25,7 @@ unfoldable pub found : Fault → Outcome Unit
 found None = answers tt
 found (At r) = refuses (r .number) (r .place)
 
--- finite, of unlike sign, neither 0, a the larger in magnitude
+-- finite, of unlike sign, neither 0, and a no smaller in magnitude than b
 pub record Opposed (a b : Float) : Type 0 where
   pub a-finite : T (finite a)
   pub b-finite : T (finite b)
@@ -39,7 +39,7 @@ pub record ExactSum (a b x y : Float) : Type 0 where
   pub exact : worth x +ℤ worth y ≡ worth a +ℤ worth b
   pub y-is : y ≡ roundoff a b
 
--- the same for the inner run, on a list that is not refused
+-- what the inner run promises, on a list that is not refused: verdict, steps and every entry
 pub record RanSays (xs : List Float) (budget : ℕ) (r : Ran) (after : List Float) : Type 0 where
   pub verdict : r .verdict ≡ ranFrom budget 0 xs .verdict
   pub steps : r .steps ≡ ranFrom budget 0 xs .steps

@@ -69,7 +69,7 @@ unfoldable pub said : Run → Outcome Told
 said (Done r) = answers (told (r .verdict) (r .steps))
 said (Refused r) = refuses (r .number) (r .place)
 
--- Sum 14 and 16: what `run` answers: undecided only if a look after all steps of the budget is
+-- Sum 14: what `run` answers. Sum 16: undecided if and only if the look after all steps of the budget is; with Sum 17 a law (Laws.Calls)
 unfoldable pub runOf : List Float → ℕ → Outcome Told
 unfolding checked ranFrom
 runOf xs budget = checked xs (told (ranFrom budget 0 xs .verdict) (ranFrom budget 0 xs .steps))
@@ -79,9 +79,7 @@ unfoldable pub leftOf : List Float → ℕ → List Float
 unfolding runOf ranFrom
 leftOf xs budget = leaves (runOf xs budget) (λ _. ranFrom budget 0 xs .left) xs
 
--- ---- the promises
-
--- what `run` promises: the answer, and every entry of the list
+-- the promise of `run`: the answer, and every entry of the list
 pub record RunSays (xs : List Float) (budget : ℕ) (r : Run) (after : List Float) : Type 0 where
   pub answer : said r ≡ runOf xs budget
   pub left : after ≡ leftOf xs budget

@@ -20,7 +20,7 @@ folded (negsuc n) = 2 * n + 1
 unfoldable pub storedOf : ℕ → ℕ → ℕ
 storedOf pattern before = folded (signed (difference pattern before))
 
--- the d of a stored number
+-- Track 6, for the reader: the d of a stored number
 abbrev pub unfolded : ℕ → ℤ
 unfolded number = cond (eqb (number % 2) 0) (pos (number / 2)) (negsuc (number / 2))
 
@@ -29,6 +29,6 @@ abbrev pub unsigned : ℤ → ℕ
 unsigned (pos n) = n
 unsigned (negsuc n) = 2 ^ 64 - 1 - n
 
--- the pattern that a stored number and the preceding pattern stand for
+-- Track 5, for the reader: the pattern of a stored number, from the one that came before it on its axis
 unfoldable pub restoredOf : ℕ → ℕ → ℕ
 restoredOf number before = (unsigned (unfolded number) + before) % 2 ^ 64
