@@ -188,19 +188,13 @@ module _ (a b p : Point) (A : RealPoint a) (B : RealPoint b) (P : RealPoint p) w
   pub crossing-under : le (a .y) (p .y) ≡ true → lt (p .y) (b .y) ≡ false → None ≡ crossingOf e z
   unfolding isUp isDown
   crossing-under h k =
-      let s = sideOfEdge e z in
       let at : atMost (e .from .y) (z .y) ≡ true = sym from-worth ∙ h in
-      crossed-under (atMost (e .from .y) (z .y)) (below (z .y) (e .to .y)) (isPositive s)
-      (atMost (e .to .y) (z .y)) (below (z .y) (e .from .y)) (isNegative s)
-      at (sym under-worth ∙ k) (below-not (e .from .y) (z .y) ∙ ap not at)
+      crossed-under _ _ _ (atMost (e .to .y) (z .y)) _ (isNegative (sideOfEdge e z)) at (sym under-worth ∙ k)
+      (below-not (e .from .y) (z .y) ∙ ap not at)
 
   pub crossing-over : le (a .y) (p .y) ≡ false → le (b .y) (p .y) ≡ false → None ≡ crossingOf e z
   unfolding isUp isDown
-  crossing-over h k =
-      let s = sideOfEdge e z in
-      crossed-over (atMost (e .from .y) (z .y)) (below (z .y) (e .to .y)) (isPositive s)
-      (atMost (e .to .y) (z .y)) (below (z .y) (e .from .y)) (isNegative s)
-      (sym from-worth ∙ h) (sym to-worth ∙ k)
+  crossing-over h k = crossed-over _ _ _ _ _ _ (sym from-worth ∙ h) (sym to-worth ∙ k)
 
   -- and the sign
   module _ (s : Sign) (told : signNumber s ≡ sgn (sideOfEdge e z)) where
@@ -214,19 +208,14 @@ module _ (a b p : Point) (A : RealPoint a) (B : RealPoint b) (P : RealPoint p) w
     pub crossing-rising : Rises a b p → cond (isPositive (signNumber s)) Up None ≡ crossingOf e z
     unfolding isUp isDown
     crossing-rising g =
-        let d = sideOfEdge e z in
         let at : atMost (e .from .y) (z .y) ≡ true = sym from-worth ∙ g .from in
-        ap (λ (t : Bool). cond t Up None) (ap isPositive told ∙ sgn-is-positive d)
-        ∙ crossed-rising (atMost (e .from .y) (z .y)) (below (z .y) (e .to .y)) (isPositive d)
-        (atMost (e .to .y) (z .y)) (below (z .y) (e .from .y)) (isNegative d)
-        at (sym under-worth ∙ g .to) (below-not (e .from .y) (z .y) ∙ ap not at)
+        ap (λ (t : Bool). cond t Up None) (ap isPositive told ∙ sgn-is-positive (sideOfEdge e z))
+        ∙ crossed-rising _ _ _ (atMost (e .to .y) (z .y)) _ (isNegative (sideOfEdge e z)) at (sym under-worth ∙ g .to)
+        (below-not (e .from .y) (z .y) ∙ ap not at)
 
     pub crossing-falling : Falls a b p → cond (isNegative (signNumber s)) Down None ≡ crossingOf e z
     unfolding isUp isDown
     crossing-falling g =
-        let d = sideOfEdge e z in
         let at : atMost (e .from .y) (z .y) ≡ false = sym from-worth ∙ g .from in
-        ap (λ (t : Bool). cond t Down None) (ap isNegative told ∙ sgn-is-negative d)
-        ∙ crossed-falling (atMost (e .from .y) (z .y)) (below (z .y) (e .to .y)) (isPositive d)
-        (atMost (e .to .y) (z .y)) (below (z .y) (e .from .y)) (isNegative d)
-        at (sym to-worth ∙ g .to) (below-not (e .from .y) (z .y) ∙ ap not at)
+        ap (λ (t : Bool). cond t Down None) (ap isNegative told ∙ sgn-is-negative (sideOfEdge e z))
+        ∙ crossed-falling _ _ _ _ _ _ at (sym to-worth ∙ g .to) (below-not (e .from .y) (z .y) ∙ ap not at)

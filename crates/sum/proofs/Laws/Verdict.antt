@@ -22,8 +22,11 @@ pub data Found (m n : ℕ) (a b : Float) : Verdict → Type 0 where
   less : 0 < m → 0 < n → T (lt (times m a) b) → Found m n a b (Decided Minus)
   close : 0 < m → 0 < n → T (not (lt (times n b) a)) → T (not (lt (times m a) b)) → Found m n a b Undecided
 
-pub verdict-found : (xs : List Float)
-    → Found (countOf false xs) (countOf true xs) (extremeOf false xs) (neg (extremeOf true xs)) (verdictOf xs)
+-- of a list's counts and extremes
+abbrev FoundIn : List Float → Verdict → Type 0
+FoundIn xs v = Found (countOf false xs) (countOf true xs) (extremeOf false xs) (neg (extremeOf true xs)) v
+
+pub verdict-found : (xs : List Float) → FoundIn xs (verdictOf xs)
 unfolding verdictOf lookOf verdictBy
 verdict-found xs = go (eqb m 0) (eqb n 0) (eqb→eq m 0) (some m) (eqb→eq n 0) (some n)
   where
@@ -64,19 +67,7 @@ pub record Open (xs : List Float) : Type 0 where
   pub below : T (not (lt (times (countOf false xs) (extremeOf false xs)) (neg (extremeOf true xs))))
 
 pub undecided-open : (xs : List Float) → verdictOf xs ≡ Undecided → Open xs
-undecided-open xs e = go (subst (λ (v : Verdict). Found m n a b v) e (verdict-found xs))
+undecided-open xs e = go (subst (FoundIn xs) e (verdict-found xs))
   where
-    m : ℕ
-    m = countOf false xs
-
-    n : ℕ
-    n = countOf true xs
-
-    a : Float
-    a = extremeOf false xs
-
-    b : Float
-    b = neg (extremeOf true xs)
-
-    go : Found m n a b Undecided → Open xs
+    go : FoundIn xs Undecided → Open xs
     go (close M N u v) = record { positives = M; negatives = N; above = u; below = v }
