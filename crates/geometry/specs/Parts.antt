@@ -18,13 +18,15 @@ use Rattle.geometry.specs.declared.zones.Fault.{Fault}
 use Rattle.geometry.specs.declared.zones.Fault.the-variants.{None as FaultNone, At as FaultAt}
 use lib.IntN.{_+ℤ_, _*ℤ_}
 use Rattle.double.specs.Worth.{worth}
-use Rattle.geometry.specs.Product.{unit, roundoffOf, pairOf}
+use Rattle.geometry.specs.Product.{unit, roundoffOf}
+use Rattle.geometry.specs.declared.product.Product.{Product}
 
 -- ---- of the exact product
 
--- Side 12: the pair, and that nothing is lost: in squares of units it is the product. What is asked of the factors is double's `Factors`.
-pub record ExactProduct (x y : Float) (pair : List Float) : Type 0 where
-  pub pair-is : pair ≡ pairOf x y
+-- Side 12: product and roundoff, and that nothing is lost: in squares of units it is the product. What is asked of the factors is double's `Factors`.
+pub record ExactProduct (x y : Float) (r : Product) : Type 0 where
+  pub rounded : r .rounded ≡ mul binary64 x y
+  pub roundoff : r .roundoff ≡ roundoffOf x y
   pub exact : (worth (mul binary64 x y) +ℤ worth (roundoffOf x y)) *ℤ unit ≡ worth x *ℤ worth y
 
 -- ---- of doubles

@@ -2,7 +2,7 @@
 ghost use mathlib.Core.Path.{_≡_};
 ghost use Rattle.double.proofs.Laws.Splitting.{highHalf};
 ghost use Rattle.double.proofs.Laws.ExactProduct.{Factors};
-ghost use Rattle.geometry.specs.Product.{productsOf, flatOf, summandsOf};
+ghost use Rattle.geometry.specs.Product.{summandsOf};
 ghost use Rattle.geometry.specs.Parts.{ExactProduct};
 ghost use Rattle.geometry.specs.Side.{Accepted};
 use point::Point;
@@ -18,8 +18,13 @@ fn high_half(x: f64) -> f64
     wide - rest
 }
 
-// The rounded product of x and y, and what it lacks of the exact one.
-fn exact_product(x: f64, y: f64) -> [f64; 2]
+// A rounded product, and what it lacks of the exact one.
+pub struct Product {
+    pub rounded: f64,
+    pub roundoff: f64,
+}
+
+fn exact_product(x: f64, y: f64) -> Product
     requires { ⌜ Factors x y ⌝ }
     ensures { λ r. ⌜ ExactProduct x y r ⌝ }
 {
@@ -33,13 +38,16 @@ fn exact_product(x: f64, y: f64) -> [f64; 2]
     let three = two - xh * yl;
     // The last difference can be -0: a roundoff of nothing is +0.
     let roundoff = xl * yl - three + 0.0;
-    [rounded, roundoff]
+    Product {
+        rounded: rounded,
+        roundoff: roundoff,
+    }
 }
 
-// The six products of the determinant, each with its roundoff.
-fn products(p: Point, q: Point, r: Point) -> [[f64; 2]; 6]
+// The twelve summands whose total is the determinant: its six products, each followed by its roundoff.
+pub fn summands(p: Point, q: Point, r: Point) -> [f64; 12]
     requires { ⌜ Accepted p × Accepted q × Accepted r ⌝ }
-    ensures { λ pairs. ⌜ pairs ≡ productsOf p q r ⌝ }
+    ensures { λ list. ⌜ list ≡ summandsOf p q r ⌝ }
 {
     let a = exact_product(q.x, r.y);
     let b = exact_product(-q.x, p.y);
@@ -47,32 +55,18 @@ fn products(p: Point, q: Point, r: Point) -> [[f64; 2]; 6]
     let d = exact_product(-q.y, r.x);
     let e = exact_product(q.y, p.x);
     let f = exact_product(p.y, r.x);
-    [a, b, c, d, e, f]
-}
-
-fn flattened(s: [[f64; 2]; 6]) -> [f64; 12]
-    ensures { λ r. ⌜ r ≡ flatOf s ⌝ }
-{
     [
-        s[0][0],
-        s[0][1],
-        s[1][0],
-        s[1][1],
-        s[2][0],
-        s[2][1],
-        s[3][0],
-        s[3][1],
-        s[4][0],
-        s[4][1],
-        s[5][0],
-        s[5][1],
+        a.rounded,
+        a.roundoff,
+        b.rounded,
+        b.roundoff,
+        c.rounded,
+        c.roundoff,
+        d.rounded,
+        d.roundoff,
+        e.rounded,
+        e.roundoff,
+        f.rounded,
+        f.roundoff,
     ]
-}
-
-// The twelve summands whose total is the determinant.
-pub fn summands(p: Point, q: Point, r: Point) -> [f64; 12]
-    requires { ⌜ Accepted p × Accepted q × Accepted r ⌝ }
-    ensures { λ list. ⌜ list ≡ summandsOf p q r ⌝ }
-{
-    flattened(products(p, q, r))
 }

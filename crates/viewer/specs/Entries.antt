@@ -1,12 +1,13 @@
 -- What the viewer's two entries answer: docs/RULES.md, section Viewer.
 use Prim.Native.Nat.{ℕ, zero, suc, _+_, _%_}
 use mathlib.Core.Path.{_≡_}
-use mathlib.Core.Bool.{Bool, false, cond, _||_}
+use mathlib.Core.Bool.{Bool, false, _||_}
 use mathlib.Core.List.{List, [], _∷_}
 use lib.Dec.{eqb}
 use lib.IntN.{ℤ, pos, negsuc}
 use lib.ListN.{length}
 use Rattle.refusal.specs.Outcome.{Outcome, answers, refuses, oddLength}
+use Rattle.refusal.specs.Judged.{require, also}
 use Rattle.point.specs.declared.Point.{Point}
 use Rattle.geometry.specs.Side.{Turned, sideOf}
 use Rattle.geometry.specs.Zone.{zoneOf}
@@ -40,7 +41,7 @@ SideEntrySays px py qx qy rx ry n = n ≡ sideEntry px py qx qy rx ry
 
 -- Viewer 5: 5 for bytes that are no multiple of 16; any others are a zone, with its own answers and refusals
 unfoldable pub zoneOfBytes : List ℕ → Point → Outcome Lies
-zoneOfBytes bytes p = cond (eqb (length bytes % cornerBytes) 0) (zoneOf (doublesOf bytes) p) (refuses oddLength 0)
+zoneOfBytes bytes p = also (require (eqb (length bytes % cornerBytes) 0) oddLength 0) (λ _. zoneOf (doublesOf bytes) p)
 
 -- Viewer 2 and 3: the zone's entry, of the point's two patterns and the corners' bytes; outside is answered by 0, border by 1, inside by 2
 unfoldable pub zoneEntry : ℕ → ℕ → List ℕ → ℕ

@@ -161,7 +161,7 @@ significand-exact : (n : ℕ) → Rep 53 n → significandOf n * 2 ^ exponentOf 
 unfolding significandOf exponentOf
 significand-exact n r = div-mul-cancel (2 ^ exponentOf n) r
 
--- the parts of a finite double: in their ranges, "magnitude s·2^(e-1074)", and the double is theirs, bit for bit
+-- the parts of a finite double: in their ranges, of the magnitude s·2^(e-1074), and the double is theirs, bit for bit
 pub record Means (x : Float) (p : Parts) : Type 0 where
   pub significand-range : p .significand < 2 ^ 53
   pub exponent-range : p .exponent ≤ 2045

@@ -91,15 +91,15 @@ module _ (p q r : Point) (t : Turn) (P : OfDoubles p) (Q : OfDoubles q) (R : OfD
   within-r : Within reach r
   within-r = accepted-within r (R .x) (R .y) (side-accepted .2)
 
-  -- "the side of a point is the sign of the exact determinant, whichever stage answered"
+  -- the sign is that of the exact determinant, whichever stage answered
   pub side-sign : signNumber (t .sign) ≡ sgn (determinant p q r)
   side-sign = sym (ap (λ (t : Turned). t .sign) (passed .1)) ∙ turn-sign p q r within-p within-q within-r
 
-  -- "For a side question the count is never above 480."
+  -- no side takes more than 480 steps
   pub side-steps : t .steps ≤ mostSteps
   side-steps = subst (λ (t : Turned). t .steps ≤ mostSteps) (passed .1) (turn-steps p q r within-p within-q within-r)
 
-  -- "steps (0 in stages 1 and 2)"
+  -- stages 1 and 2 take none
   pub side-steps-early : t .stage < 3 → t .steps ≡ 0
   side-steps-early l =
       subst (λ (t : Turned). t .stage < 3 → t .steps ≡ 0) (passed .1) (turn-steps-early p q r) l

@@ -32,7 +32,7 @@ use Rattle.geometry.specs.Side.{Turned, turned, mostSteps, byRun, exactO
 use Rattle.geometry.proofs.Laws.Product.{Within}
 use Rattle.geometry.proofs.Laws.Summands.{summands-length, summands-real, summands-ceiling, summands-sign}
 
--- "Stage 3."
+-- stage 3
 pub exact-stage : (p q r : Point) → exactOf p q r .stage ≡ 3
 unfolding exactOf
 exact-stage p q r = go (runOf (summandsOf p q r) mostBudget)

@@ -181,7 +181,7 @@ module _ (x y : Float) (rx : Reach reach x) (ry : Reach reach y) (some : 0 < mag
   pub difference-range : (2 ^ 622 ≤ mag binary64 (sub binary64 x y)) × (mag binary64 (sub binary64 x y) ≤ 2 ^ 1475)
   difference-range = sub-range reach x y (lit≤ tt) rx ry some
 
-  -- so it is above 1e-146 and below 1e153: "the underflow and overflow tests of 001 can not fire"
+  -- so it is above 1e-146 and below 1e153, and needs no test of its own for underflow or overflow
   pub difference-tests : (2 ^ 1074 < mag binary64 (sub binary64 x y) * 10 ^ 146) × (mag binary64 (sub binary64 x y) < 10 ^ 153 * 2 ^ 1074)
   difference-tests =
       let (low, high) = difference-range in

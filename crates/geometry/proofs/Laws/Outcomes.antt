@@ -31,14 +31,14 @@ accepting-outcomes P a answered refused i (x ∷ xs) =
     cond-holds P (acceptedOf x) (acceptingFrom (i + 1) xs a) (refuses notAccepted i)
     (accepting-outcomes P a answered refused (i + 1) xs) (refused i)
 
--- "Side: 3 only"
+-- a side is refused 3 only
 pub side-outcomes : (P : Outcome Turned → Type 0) → ((t : Turned) → P (answers t)) → ((place : ℕ) → P (refuses notAccepted place))
     → (p q r : Point) → P (sideOf p q r)
 unfolding sideOf
 side-outcomes P answered refused p q r =
     accepting-outcomes P (turnOf p q r) (answered (turnOf p q r)) refused 0 (sixOf p q r)
 
--- "Zone 5, 4, 1, then 3"
+-- a zone 5, 4, 1 and then 3
 pub zone-outcomes : (P : Outcome Lies → Type 0) → ((place : Lies) → P (answers place)) → P (refuses oddLength 0) → P (refuses tooFewCorners 0)
     → P (refuses tooMany 0) → ((place : ℕ) → P (refuses notAccepted place)) → (corners : List Float) (p : Point) → P (zoneOf corners p)
 unfolding zoneOf

@@ -64,12 +64,13 @@ zero-pattern = refl
 
 -- what the code returns is what it promises
 pub product-promised : (x y : Float) → Factors x y
-    → ExactProduct x y (mul binary64 x y ∷ add binary64 (lastDifference (mul binary64 x y) x y) (ofBits binary64 0) ∷ [])
+    → ExactProduct x y
+    (record { rounded = mul binary64 x y; roundoff = add binary64 (lastDifference (mul binary64 x y) x y) (ofBits binary64 0) })
 product-promised x y F =
     let E = exact-product x y F in
     record {
-      pair-is = ap (λ (e : Float). mul binary64 x y ∷ e ∷ [])
-          (ap (λ (z : Float). add binary64 (lastDifference (mul binary64 x y) x y) z) zero-pattern ∙ roundoff-is x y E);
+      rounded = refl;
+      roundoff = ap (λ (z : Float). add binary64 (lastDifference (mul binary64 x y) x y) z) zero-pattern ∙ roundoff-is x y E;
       exact = roundoff-exact x y E;
     }
 

@@ -30,7 +30,7 @@ use Rattle.geometry.proofs.Laws.Exact.{exact-sign, exact-steps, exact-s
 
 -- ---- the sign
 module _ (p q r : Point) (P : Within reach p) (Q : Within reach q) (R : Within reach r) where
-  -- "the sign of (qx-px)(ry-py) - (qy-py)(rx-px), exact", whatever stage answers
+  -- the sign is that of the exact determinant, whatever stage answers
   pub turn-sign : turnOf p q r .sign ≡ sgn (determinant p q r)
   unfolding turnOf
   turn-sign = go (filterOf p q r) (filter-rule p q r P Q R)
@@ -46,7 +46,7 @@ module _ (p q r : Point) (P : Within reach p) (Q : Within reach q) (R : Within r
   pub turn-said-sign : (t : Turn) → turnSaid t ≡ turnOf p q r → signNumber (t .sign) ≡ sgn (determinant p q r)
   turn-said-sign t e = ap (λ (t : Turned). t .sign) e ∙ turn-sign
 
-  -- "For a side question the count is never above 480"
+  -- no side takes more than 480 steps
   pub turn-steps : turnOf p q r .steps ≤ mostSteps
   unfolding turnOf
   turn-steps = go (filterOf p q r)
@@ -63,7 +63,7 @@ module _ (p q r : Point) where
   unfolding turnOf
   turn-by e = ap (λ (f : Early). byStage f (exactOf p q r)) e
 
-  -- "steps (0 in stages 1 and 2)"
+  -- stages 1 and 2 take none
   pub turn-steps-early : turnOf p q r .stage < 3 → turnOf p q r .steps ≡ 0
   unfolding turnOf
   turn-steps-early = go (filterOf p q r)
@@ -88,7 +88,7 @@ passed-by {b} e h = sym e ∙ go b h
     go true h = refl
     go false h = sym h
 
--- ---- "Side: 3 only, place 0 to 5 for px, py, qx, qy, rx, ry"
+-- ---- a side is refused 3 only, at 0 to 5 for px, py, qx, qy, rx, ry
 module _ (p q r : Point) where
   pub side-px : acceptedOf (p .x) ≡ false → refuses notAccepted 0 ≡ sideOf p q r
   unfolding sideOf passingFrom

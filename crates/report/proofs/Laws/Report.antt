@@ -222,7 +222,7 @@ report-codes zone bytes room codes e =
     let a = releases-list (r .0) bytes room codes (r .2) in
     reported zone bytes codes (r .0) (a .0) (r .1) (a .1) (a .2)
 
--- "0, 1, 2": each is one of these.
+-- each is 0, 1 or 2
 pub report-codes-most : (zone bytes : List ℕ) (room : ℕ) (codes : List ℕ) → reportOf zone bytes room ≡ releases codes
     → (k : ℕ) → k < length codes → getD codes k 0 ≤ 2
 report-codes-most zone bytes room codes e k l =

@@ -137,7 +137,7 @@ judged xs =
     also (require (leb (length xs / 2) most) tooMany 0) (λ _.
     answers xs))
 
--- A file is refused by the reader, or by geometry's zone rule whatever accepted point is asked for: "by reader or zone rule".
+-- A file is refused by the reader, or by geometry's zone rule whatever accepted point is asked for
 pub zone-file-rule : (bytes : List ℕ) (p : Point) → Accepted p
     → zoneFileOf bytes ≡ also (fileHolds bytes) (λ corners. also (zoneOf corners p) (λ _. answers corners))
 unfolding zoneFileOf
@@ -169,7 +169,7 @@ zone-file-rule bytes p a = go (fileHolds bytes) refl
     go (answers xs) e = same xs (read-points limit bytes (2 * limit) xs e)
     go (refuses n q) e = refl
 
--- "A zone is 3 to 64 corners": so many are answered.
+-- 3 to 64 corners are answered
 pub judge-corners : (zone : List ℕ) (n : ℕ) → JudgeSays zone (Corners n) → (fewest ≤ n) × (n ≤ most)
 judge-corners zone n h =
     let a = also-answered (zoneFileOf zone) _ (sym h) in
@@ -178,7 +178,7 @@ judge-corners zone n h =
     (omega (arith, z .some), omega (arith, z .few))
 
 -- ---- which refusals there are
--- "zone rule (4 or 1)"
+-- the zone rule refuses 4 or 1
 abbrev pub isRules : ℕ → Bool
 isRules n = eqb n tooFewCorners || eqb n tooMany
 
@@ -209,7 +209,7 @@ zone-file-only bytes =
     rules-too (judged xs) (judged-only xs))
 
 -- ---- the first bytes of a file
--- "at most 10,243 bytes of each, which can not alter the first refusal"
+-- what follows the first 10,243 bytes does not alter the first refusal
 pub file-enough : (bytes : List ℕ) → Bytes bytes → fileHolds (take (mostBytes + 1) bytes) ≡ fileHolds bytes
 file-enough bytes all = read-enough bytes (2 * limit) all
 

@@ -141,7 +141,7 @@ pub record Filtered (px py qx qy rx ry X Y E : Float) : Type 0 where
   pub second-real : Real binary64 (mul binary64 (sub binary64 qy py) (sub binary64 rx px))
   pub d-real : Real binary64 (sideDifference px py qx qy rx ry)
   pub e-real : Real binary64 E
-  -- "the filter's error bound" in squares of units, as `Threshold` has it
+  -- the filter's error bound in squares of units, as `Threshold` has it
   pub first-error : gap (apart qx px * apart ry py) (mag binary64 (mul binary64 (sub binary64 qx px) (sub binary64 ry py)) * 2 ^ 1074) * 2 ^ 54
       ≤ 7 * (mag binary64 X * mag binary64 Y)
   pub second-error : gap (apart qy py * apart rx px) (mag binary64 (mul binary64 (sub binary64 qy py) (sub binary64 rx px)) * 2 ^ 1074) * 2 ^ 54

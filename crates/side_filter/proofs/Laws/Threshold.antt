@@ -95,7 +95,7 @@ pub record Decided (sa sb sc sd : Bool) (A B C D : ℕ) (a b c d X Y E : Float) 
   pub second-side : (plus binary64 (mul binary64 b c) ≡ plusOf (unlike sb sc) (mag binary64 (mul binary64 b c)))
       × (minus binary64 (mul binary64 b c) ≡ minusOf (unlike sb sc) (mag binary64 (mul binary64 b c)))
   pub e-side : minus binary64 E ≡ 0
-  -- "the filter's error bound" in squares of units: each rounded product is within 7 / 2 ^ 54 of X * Y of the exact one, and E, which is
+  -- the filter's error bound in squares of units: each rounded product is within 7 / 2 ^ 54 of X * Y of the exact one, and E, which is
   -- more than the two together, is at least 7.9 / 2 ^ 53 of it
   pub first-error : gap (A * D) (mag binary64 (mul binary64 a d) * 2 ^ 1074) * 2 ^ 54 ≤ 7 * (mag binary64 X * mag binary64 Y)
   pub second-error : gap (B * C) (mag binary64 (mul binary64 b c) * 2 ^ 1074) * 2 ^ 54 ≤ 7 * (mag binary64 X * mag binary64 Y)

@@ -82,7 +82,7 @@ plain-refused xs r p = refused-as plainSaid PlainRefused xs (sgn (totalOf xs)) (
     only (Signed s) q e = no-refusal (sym e)
     only (PlainRefused r) q e = ap PlainRefused (refuses-once r q e)
 
--- "A refused call writes to none of the memory it was lent."
+-- a refused call leaves the list as it was
 pub run-refused-leaves : (xs ys : List Float) (b : ℕ) (q : Refusal) → RunSays xs b (Refused q) ys → ys ≡ xs
 unfolding said leftOf
 run-refused-leaves xs ys b q p = p .left ∙ sym (ap (λ (o : Outcome Told). leaves o (λ _. ranFrom b 0 xs .left) xs) (p .answer))
@@ -135,11 +135,11 @@ module _ (xs ys : List Float) (b : ℕ) (r : Ran) (d : AllDoubles xs) (p : RunSa
   unfolding leftOf said
   left-is = p .left ∙ sym (ap (λ (o : Outcome Told). leaves o (λ _. ranFrom b 0 xs .left) xs) (p .answer))
 
-  -- "the exact total is the same"
+  -- the exact total stays
   pub run-total : totalOf ys ≡ totalOf xs
   run-total = ap totalOf left-is ∙ ran-total b xs real
 
-  -- "The sign of a sum is the sign of the exact sum"
+  -- a sign is that of the exact sum
   pub run-sign : (s : Sign) → r .verdict ≡ Decided s → signNumber s ≡ sgn (totalOf xs)
   run-sign s e = go (ranFrom b 0 xs .verdict) refl (sym (ap decision e) ∙ verdict-is)
     where
@@ -152,13 +152,13 @@ module _ (xs ys : List Float) (b : ℕ) (r : Ran) (d : AllDoubles xs) (p : RunSa
     ceiling-is : c ≡ ceilingOf xs
     ceiling-is = let e : Steps c ≡ Steps (ceilingOf xs) = ceiling-answers xs run-accepted (Steps c) q in cc
 
-    -- "the count never exceeds this ceiling"
+    -- no run takes more steps than the ceiling
     pub run-steps : r .steps ≤ c
     run-steps =
         subst (λ (n : ℕ). n ≤ c) (sym steps-are)
         (subst (λ (n : ℕ). ranFrom b 0 xs .steps ≤ n) (sym ceiling-is) (ceiling-steps b xs real (run-accepted .short)))
 
-    -- "A run with a budget at or above the ceiling always decides."
+    -- with a budget of the ceiling or more a run decides
     pub run-decides : c ≤ b → decision (r .verdict) ≡ sign (sgn (totalOf xs))
     run-decides h = verdict-is ∙ ceiling-sign b xs real (run-accepted .short) (subst (λ (n : ℕ). n ≤ b) ceiling-is h)
 
@@ -167,11 +167,11 @@ module _ (xs ys : List Float) (b : ℕ) (r : Ran) (d : AllDoubles xs) (p : RunSa
     pub run-takes : r .steps ≡ min b n
     run-takes = steps-are ∙ settled-steps xs n z b
 
-    -- "The list then holds the state after that many steps."
+    -- the list is left as it stands after so many steps
     pub run-leaves : ys ≡ after (min b n) xs
     run-leaves = left-is ∙ settled-left xs n z b
 
-    -- "Undecided is answered exactly when the rule has not decided after budget steps."
+    -- a run is undecided where, and only where, the rule is after budget steps
     pub run-undecided : (r .verdict ≡ Undecided) ↔ (b < n)
     run-undecided = (λ u. short u (lt-or-le b n), λ h. only (r .verdict) (verdict-is ∙ ap decision (settled-short xs n z b h .1)))
       where
@@ -186,7 +186,7 @@ module _ (xs ys : List Float) (b : ℕ) (r : Ran) (d : AllDoubles xs) (p : RunSa
         only (Decided s) e = never (cc)
         only Undecided e = refl
 
-  -- ---- "The plain sum gives the same sign"
+  -- ---- the plain sum's sign is the same
   pub run-plain : (s t : Sign) → r .verdict ≡ Decided s → PlainSays xs (Signed t) → s ≡ t
   run-plain s t e q = sign-once s t (run-sign s e ∙ sym (plain-sign xs t q))
 

@@ -131,7 +131,7 @@ ceiling-most xs r h =
     all : (w l : ℕ) → w ≤ l * shareMost → l ≤ limit → w ≤ 50176
     all w l h g = omega arith
 
--- ---- "All-zero and empty lists have ceiling 0."
+-- ---- lists of zeros alone, and the empty one, have the ceiling 0
 size-zero : size 0 ≡ 0
 size-zero = le-antisymm (size-le 0 0 (lit< tt)) zero-le
 

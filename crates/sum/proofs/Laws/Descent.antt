@@ -178,7 +178,7 @@ module _ (k j : ℕ) (K : k < prec binary64) where
         least : (s i w : ℕ) → s + i ≤ w → i ≤ w
         least s i w h = omega arith
 
-    -- "A run with a budget at or above the ceiling always decides."
+    -- with a budget of the ceiling or more a run decides
     pub ran-decides : weightOf (prec binary64 - k) j xs ≤ b → (s : Sign) × (ranFrom b 0 xs .verdict ≡ Decided s)
     ran-decides h = go (ranFrom b 0 xs .verdict) refl
       where
@@ -203,7 +203,7 @@ module _ (k j : ℕ) (K : k < prec binary64) where
 -- ---- the ceiling
 
 module _ (budget : ℕ) (xs : List Float) (a : AllReal xs) (short : length xs ≤ limit) where
-  -- "the count never exceeds this ceiling"
+  -- no run takes more steps than the ceiling
   pub ceiling-steps : ranFrom budget 0 xs .steps ≤ ceilingOf xs
   unfolding ceilingOf
   ceiling-steps = ran-steps power (grainOf xs) (lit< tt) budget xs a short (grain-divides xs)

@@ -186,7 +186,7 @@ module _ (s : Bool) (xs : List Float) (a : AllReal xs) where
       subst T (sym (asFar-is s (extremeOf s xs) x (known .real) v (known .only) (far-other s x X)))
       (le→leb (far s x) (far s (extremeOf s xs)) (known .most d k h))
 
-  -- "among equal entries the lowest index is taken": those before it are less far
+  -- of equal entries the first is taken: those before it are less far
   pub extreme-first : (d : Float) (k : ℕ) → k < indexOf s xs → 0 < countOf s xs → T (onSide s (getD xs k d))
       → T (not (asFar s (getD xs k d) (extremeOf s xs)))
   extreme-first d k h m t =

@@ -129,7 +129,7 @@ divided-lower : (j k : ℕ) → j ≤ k → (xs : List Float) → All (Divided k
 divided-lower j k h [] a = tt
 divided-lower j k h (x ∷ xs) a = (dvd-lower h (a .0), divided-lower j k h xs (a .1))
 
--- "the largest power of two that divides each nonzero entry exactly": it divides every entry ..
+-- the grain is the greatest power of two that divides all entries: it divides every entry ..
 pub grain-divides : (xs : List Float) → All (λ x. 2 ^ grainOf xs ∣ mag binary64 x) xs
 grain-divides [] = tt
 grain-divides (x ∷ xs) =

@@ -106,7 +106,7 @@ module _ (b : ℕ) (xs : List Float) where
   pub ran-steps-most : run .steps ≤ b
   ran-steps-most = own .most
 
-  -- "The list then holds the state after that many steps"
+  -- the list is left as it stands after so many steps
   pub ran-left : run .left ≡ after (run .steps) xs
   ran-left = own .list
 
@@ -114,7 +114,7 @@ module _ (b : ℕ) (xs : List Float) where
   pub ran-verdict : run .verdict ≡ verdictOf (run .left)
   ran-verdict = own .look ∙ ap verdictOf (sym (own .list))
 
-  -- "steps only while undecided"
+  -- a step is taken only while nothing is decided
   pub ran-before : (i : ℕ) → i < run .steps → verdictOf (after i xs) ≡ Undecided
   ran-before = own .before
 

@@ -147,7 +147,7 @@ module _ (xs : List Float) (a : AllReal xs) (short : length xs ≤ 2 ^ prec bina
       (far false (extremeOf false xs)) q-split p-split (counted false) t))))
   says (close m n t u) = tt
 
-  -- "The sign of a sum is the sign of the exact sum": whatever decides it
+  -- a sign is that of the exact sum, whatever decides it
   pub verdict-sign : (s : Sign) → verdictOf xs ≡ Decided s → signNumber s ≡ sgn (totalOf xs)
   verdict-sign s e = subst (λ (v : Verdict). Says v (totalOf xs)) e (says (verdict-found xs))
 
@@ -170,7 +170,7 @@ module _ (budget : ℕ) (xs : List Float) (a : AllReal xs) where
       })
       budget xs (record { real = a; long = refl; total = refl })
 
-  -- "the exact total is the same after each step": the list that any budget leaves has it
+  -- the list that any budget leaves has the same exact total
   pub ran-total : totalOf (ranFrom budget 0 xs .left) ≡ totalOf xs
   ran-total = kept .total
 

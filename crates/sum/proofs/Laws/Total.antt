@@ -77,7 +77,7 @@ module _ (xs : List Float) (a : AllReal xs) (o : Open xs) (u v : Float) where
           ints (s ∷ t ∷ r ∷ p ∷ q ∷ u ∷ v ∷ [])
           (λ ρ v n m. simp (int-rules, v 0, v 1, v 2, v 3, v 4, v 5, v 6) (omega arith))
 
--- ---- "the exact total is the same after each step"
+-- ---- a step leaves the exact total as it is
 pub step-total : (xs : List Float) → verdictOf xs ≡ Undecided → AllReal xs → totalOf (stepOf xs) ≡ totalOf xs
 step-total xs e a =
     let (u, v, w) = step-cases xs e a in

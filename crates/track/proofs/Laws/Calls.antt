@@ -75,7 +75,7 @@ read-refusal : {file : List ℕ} {lent : List Float} {r : Refusal} {left : List 
 read-refusal {file} {lent} r = also-refused (readOf limit file (length lent)) (λ points. length points / 2) (sym (r .answer))
 
 -- ---- what a call leaves as it was
--- "A refusal .. writes nothing"
+-- a refusal writes nothing
 pub write-refused : {points : List Float} {lent : List ℕ} {r : Refusal} {left : List ℕ} → WriteSays points lent (Unwritten r) left
     → left ≡ lent
 write-refused {lent = lent} w = w .bytes ∙ ap (λ (o : Outcome (List ℕ)). filled o lent) (write-refusal w)
@@ -84,12 +84,12 @@ pub read-refused : {file : List ℕ} {lent : List Float} {r : Refusal} {left : L
     → left ≡ lent
 read-refused {lent = lent} r = r .entries ∙ ap (λ (o : Outcome (List Float)). filled o lent) (read-refusal r)
 
--- "writes only that many bytes"
+-- only the file's bytes are written
 pub write-later : {points : List Float} {lent : List ℕ} {n : ℕ} {left : List ℕ} → WriteSays points lent (Length n) left
     → drop n left ≡ drop n lent
 write-later {lent = lent} {n} {left} w = let f = written w in filled-later n (f .0) lent left (f .2) (f .3)
 
--- "fills two entries per point, leaves later ones"
+-- two entries for each point are filled, and later ones stay
 pub read-later : {file : List ℕ} {lent : List Float} {n : ℕ} {left : List Float} → ReadSays file lent (Points n) left
     → drop (2 * n) left ≡ drop (2 * n) lent
 read-later {lent = lent} {n} {left} r =

@@ -53,7 +53,7 @@ module _ (p start next : ℕ) where
       judged-refused (nan-refused (ofBits binary64 p) (sym (nanBits-is binary64 p) ∙ above))
 
 -- ---- a number judged
--- "6 or 7, then 3"
+-- 6 or 7, then 3
 abbrev pub isCoordinates : ℕ → Bool
 isCoordinates n = eqb n endsEarly || (eqb n notShortest || eqb n notAccepted)
 

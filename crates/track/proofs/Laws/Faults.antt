@@ -14,7 +14,7 @@ use Rattle.track.specs.Number.{full, Begins, number, early, faulty, abov
 use Rattle.refusal.proofs.Laws.Judged.{cond-yes, cond-no}
 
 -- ---- in words, of the bytes from a number's first on
--- "the top bit set on every byte but the last": so the number goes on after the first k
+-- every byte but the last has its top bit set: so the number goes on after the first k
 abbrev pub Continued : ℕ → List ℕ → Type 0
 Continued k rest = (i : ℕ) → i < k → 128 ≤ getD rest i 0
 
@@ -22,11 +22,11 @@ Continued k rest = (i : ℕ) → i < k → 128 ≤ getD rest i 0
 abbrev pub EndsBefore : ℕ → List ℕ → Type 0
 EndsBefore k rest = (length rest ≤ k) × Continued (length rest) rest
 
--- "file ends inside or before a number": before its last byte, and before the tenth
+-- the file ends before a number or inside it: before its last byte, and before the tenth
 abbrev pub EndsEarly : List ℕ → Type 0
 EndsEarly rest = EndsBefore full rest
 
--- "number not shortest, or above 64 bits"
+-- a number that is not in shortest form, or not below 2^64
 pub data NotShortest (rest : List ℕ) : Type 0 where
   -- a tenth byte other than 1: 0 is not shortest, any other is above 64 bits
   tenth : full < length rest → Continued full rest → (getD rest full 0 ≡ 1 → ⊥) → NotShortest rest

@@ -85,7 +85,7 @@ module _ (is : ℕ → Bool) where
   only-require-held t n p next h k =
       each-require numbered t n p next (λ f. absurd (let z : _≡_ {A = ℕ} 0 1 = cc in omega arith)) (λ _. k)
 
--- ---- the reader's numbers, where there is room: all but 9 of the order "the count (6 or 7), 1, 9, then .. 6 or 7, then 3 ..; last 8"
+-- ---- the reader's numbers, where there is room: all but 9 of the order: 6 or 7 for the count, 1, 9, then 6 or 7 and 3 for each number, last 8
 abbrev pub isReaders : ℕ → Bool
 isReaders n = eqb n endsEarly || (eqb n notShortest || (eqb n tooMany || (eqb n notAccepted || eqb n bytesAfter)))
 

@@ -1,7 +1,7 @@
 -- What an entry answers. In order: a side; a zone, whose length is judged first; every number that an entry can answer; no two results
 -- satisfy a promise. Assumes nothing.
 use mathlib.Core.Path.{_≡_, refl, sym, ap, _∙_}
-use mathlib.Core.Bool.{Bool, true, false, cond}
+use mathlib.Core.Bool.{Bool, true, false}
 use mathlib.Core.List.{List}
 use Prim.Native.Nat.{ℕ, zero, suc, _+_, _*_, _/_, _%_, _≤_, _<_}
 use native.Mathlib.Omega.{arith}
@@ -10,7 +10,8 @@ use lib.IntN.{ℤ, pos, negsuc}
 use lib.ListN.{length}
 use lib.Ieee.{Float}
 use borrow.Author.Tests.{eq-eqb, ne-eqb}
-use Rattle.refusal.specs.Outcome.{Outcome, refuses, Fixes, tooMany, tooFewCorners, oddLength}
+use Rattle.refusal.specs.Outcome.{Outcome, Fixes, tooMany, tooFewCorners, oddLength}
+use Rattle.refusal.specs.Judged.{require, also}
 use Rattle.refusal.specs.declared.Refusal.{Refusal}
 use Rattle.point.specs.declared.Point.{Point}
 use Rattle.sum.specs.Total.{signNumber}
@@ -114,7 +115,7 @@ place-answers inside = refl
 abbrev Listed : Outcome Lies → Type 0
 Listed o = isOneOf zoneAnswers (entryOf placeNumber o) ≡ true
 
-whole-or-odd : (b : Bool) (o : Outcome Lies) → Listed o → Listed (cond b o (refuses oddLength 0))
+whole-or-odd : (b : Bool) (o : Outcome Lies) → Listed o → Listed (also (require b oddLength 0) (λ _. o))
 unfolding entryOf
 whole-or-odd true o h = h
 whole-or-odd false o h = refl
