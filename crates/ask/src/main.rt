@@ -16,7 +16,6 @@ use held::Input;
 use held::List;
 use held::Out;
 use held::Token;
-use libc::EINTR;
 use libc::STDIN_FILENO;
 use line::Line;
 use part::first;
@@ -85,23 +84,29 @@ fn last(line: Line, token: &mut Token, list: &mut List, out: &mut Out) {
     out::flush(out, len);
 }
 
-// How many bytes one read of the input gives; none where it has ended, or can not be read.
-fn filled(input: &mut Input) -> usize {
-    let mut tries = u64::MAX;
-    while 0 < tries {
-        tries -= 1;
-        let got = libc::read(STDIN_FILENO, input);
-        if 0 <= got {
-            return io::count(got, input);
-        }
-        if os::errno() != EINTR {
-            return 0;
-        }
-    }
-    0
+// What one read of the input gives.
+enum Got {
+    Bytes(usize),
+    // The input is over.
+    Ended,
+    // It can not be read, which is told on standard error.
+    Failed,
 }
 
-// Reads until the input is over, and writes what each read answers, so that nothing waits while the next read does.
+fn filled(input: &mut Input) -> Got {
+    let got = system::read(STDIN_FILENO, input);
+    if got < 0 {
+        os::fail(b"input");
+        return Got::Failed;
+    }
+    if got == 0 {
+        return Got::Ended;
+    }
+    Got::Bytes(io::count(got, input))
+}
+
+// Reads until the input is over, and writes what each read answers, so that nothing waits while the next read does. Where a write fails the run
+// ends; where a read fails too, and a line that was cut off is not answered.
 // (The count of turns, which no input reaches, is why this ends.)
 fn main() {
     let mut input = io::large_buffer();
@@ -115,16 +120,22 @@ fn main() {
     let mut turns = u64::MAX;
     while 0 < turns {
         turns -= 1;
-        let n = filled(&mut input);
-        if n == 0 {
-            let line = left.line;
-            last(line, &mut token, &mut list, &mut out);
-            return;
+        match filled(&mut input) {
+            Got::Bytes(n) => {
+                left = feed(left, &input, n, &mut token, &mut list, &mut out);
+                if !out::flush(&out, left.len) {
+                    return;
+                }
+                left.len = 0;
+            }
+            Got::Ended => {
+                let line = left.line;
+                last(line, &mut token, &mut list, &mut out);
+                return;
+            }
+            Got::Failed => {
+                return;
+            }
         }
-        left = feed(left, &input, n, &mut token, &mut list, &mut out);
-        if !out::flush(&out, left.len) {
-            return;
-        }
-        left.len = 0;
     }
 }

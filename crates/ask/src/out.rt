@@ -1,4 +1,5 @@
 // The answers on their way out: `out` holds the bytes that are not written yet, `len` of them, and each function answers the new `len`.
+// After a write that failed `len` is `BROKEN`, and nothing is put or written any more.
 use crate::held::List;
 use crate::held::Out;
 use crate::held::Token;
@@ -8,11 +9,15 @@ use crate::reply::Reply;
 use crate::word::LETTERS;
 use crate::word::NONE;
 use crate::word::letter;
-use libc::STDOUT_FILENO;
 
-// Writes what waits. Nothing waits any more, also where writing failed.
+pub const BROKEN: usize = usize::MAX;
+
+// Writes what waits, and answers whether no write failed.
 pub fn flush(out: &Out, len: usize) -> bool {
-    io::write_all(STDOUT_FILENO, first(out, len))
+    if len == BROKEN {
+        return false;
+    }
+    system::write(first(out, len))
 }
 
 // One byte more; what waits is written first where it leaves no room.
@@ -21,7 +26,9 @@ pub fn put(out: &mut Out, len: usize, b: u8) -> usize {
         out[len] = b;
         return len + 1;
     }
-    flush(out, len);
+    if !flush(out, len) {
+        return BROKEN;
+    }
     out[0] = b;
     1
 }

@@ -1,3 +1,4 @@
--- What a reader must believe of the desk: its text. Parts is what inner functions promise.
+-- What a reader must believe of the desk: the text of what is told, and its whole output. Parts is what inner functions promise.
 pub mod Text
+pub mod Printed
 pub mod Parts

@@ -1,5 +1,5 @@
--- The desk's text: Desk 3, 4, 6 and 7 of docs/RULES.md. In order: the bytes of words; a number in decimal; the text of all that is told;
--- the promises of the parts that put it together. Not here: `unreadable zone` and `unreadable releases`, which the code has whole.
+-- The text of what is told of two files: Desk 3, 4, 6 and 7 of docs/RULES.md. In order: the bytes of words; a number in decimal; the text. Not
+-- here: files that can not be read (`Printed`).
 use Prim.Native.Nat.{ℕ, zero, suc, _+_, _/_, _%_}
 use Prim.Native.Char.{code}
 use Prim.Native.String.{String, [] as []ˢ, _∷_ as _∷ˢ_}

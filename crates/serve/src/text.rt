@@ -1,50 +1,85 @@
-// The desk's text, put together in a buffer and then written.
+// The desk's text, put together in a buffer.
 ghost use mathlib.Core.Path.{_≡_};
 ghost use Prim.Native.Nat.{_+_, _≤_};
 ghost use lib.ListN.{length, take};
-ghost use Rattle.report.specs.Report.{reportOf, releases, refusedZone};
+ghost use Rattle.track.specs.File.{limit};
+ghost use Rattle.report.specs.Report.{reportOf, releases as told};
 ghost use Rattle.serve.specs.Text.{decimal, placeText, lineText, headerText, refusalText, textOf};
+ghost use Rattle.serve.specs.Printed.{bytes, nothing, found, printed, isGood};
 ghost use Rattle.serve.specs.Parts.{Puts};
-use libc::EINTR;
-use libc::STDOUT_FILENO;
+use crate::files::first;
 use refusal::Refusal;
+use report::answer::Judged;
 use report::answer::Report;
+use system::files::Held;
 use track::limit::POINTS;
 
 // Room for every text: a header of at most 30 bytes, and 512 lines of at most 29.
 pub const TEXT: usize = 16384;
 
-pub fn say(text: &[u8]) {
-    let mut done: usize = 0;
-    while done < text.len() {
-        let k = io::count(write(&text[done..]), &text[done..]);
-        if k == 0 {
-            return;
-        }
-        done += k;
+// Whether the zone could be read and is not refused.
+pub fn is_good(zone: Held, zone_bytes: &[u8]) -> bool
+    ensures { λ r. ⌜ r ≡ isGood (found zone (now («zone_bytes» .entry))) ⌝ }
+{
+    match zone {
+        Held::Bytes(n) => is_good_file(first(zone_bytes, n)),
+        Held::Unreadable => false,
     }
 }
 
-// One write; an interrupted one is tried again. (The count of turns, which no text reaches, is why this ends.)
-fn write(text: &[u8]) -> isize {
-    let mut turns = u64::MAX;
-    while 0 < turns {
-        turns -= 1;
-        let put = libc::write(STDOUT_FILENO, text);
-        if 0 <= put {
-            return put;
-        }
-        if os::errno() != EINTR {
-            return put;
-        }
+fn is_good_file(zone: &[u8]) -> bool
+    ensures { λ r. ⌜ r ≡ isGood (bytes (now (zone .entry))) ⌝ }
+{
+    match report::judge(zone) {
+        Judged::Corners(_) => true,
+        Judged::Refused(_) => false,
     }
-    -1
 }
 
-// Puts the text of the report of two files at the start of `out`, and answers how many bytes it has.
-pub fn text_of(zone: &[u8], releases: &[u8], out: &mut [u8]) -> usize
+// Puts all that is printed at the start of `out`, and answers how many bytes it has.
+pub fn text_of(
+    zone: Held,
+    zone_bytes: &[u8],
+    releases: Held,
+    release_bytes: &[u8],
+    out: &mut [u8],
+) -> usize
     requires { ⌜ 16384 ≤ length (now out) ⌝ }
-    ensures { λ r. ⌜ take r (now (out .exit)) ≡ textOf (reportOf (now (zone .entry)) (now (releases .entry)) 512) ⌝ }
+    ensures { λ r. ⌜ take r (now (out .exit))
+        ≡ printed (found zone (now («zone_bytes» .entry))) (found releases (now («release_bytes» .entry))) ⌝ }
+{
+    match zone {
+        Held::Bytes(n) => text_in(first(zone_bytes, n), releases, release_bytes, out),
+        Held::Unreadable => put(out, 0, b"unreadable zone\n"),
+    }
+}
+
+// The same where the zone could be read.
+fn text_in(zone: &[u8], releases: Held, release_bytes: &[u8], out: &mut [u8]) -> usize
+    requires { ⌜ 16384 ≤ length (now out) ⌝ }
+    ensures { λ r. ⌜ take r (now (out .exit)) ≡ printed (bytes (now (zone .entry))) (found releases (now («release_bytes» .entry))) ⌝ }
+{
+    match releases {
+        Held::Bytes(n) => text_of_report(zone, first(release_bytes, n), out),
+        Held::Unreadable => text_without(zone, out),
+    }
+}
+
+// The same where the releases could not be read.
+fn text_without(zone: &[u8], out: &mut [u8]) -> usize
+    requires { ⌜ 16384 ≤ length (now out) ⌝ }
+    ensures { λ r. ⌜ take r (now (out .exit)) ≡ printed (bytes (now (zone .entry))) nothing ⌝ }
+{
+    match report::judge(zone) {
+        Judged::Corners(_) => put(out, 0, b"unreadable releases\n"),
+        Judged::Refused(r) => put_refusal(out, b"refused zone ", r),
+    }
+}
+
+// The same where both could be read.
+fn text_of_report(zone: &[u8], releases: &[u8], out: &mut [u8]) -> usize
+    requires { ⌜ 16384 ≤ length (now out) ⌝ }
+    ensures { λ r. ⌜ take r (now (out .exit)) ≡ textOf (reportOf (now (zone .entry)) (now (releases .entry)) limit) ⌝ }
 {
     let mut codes = [0u8; POINTS];
     match report::report(zone, releases, &mut codes) {
@@ -52,14 +87,6 @@ pub fn text_of(zone: &[u8], releases: &[u8], out: &mut [u8]) -> usize
         Report::RefusedZone(r) => put_refusal(out, b"refused zone ", r),
         Report::RefusedReleases(r) => put_refusal(out, b"refused releases ", r),
     }
-}
-
-// The same for a zone that is refused before the releases are read.
-pub fn text_of_refused(r: Refusal, out: &mut [u8]) -> usize
-    requires { ⌜ 16384 ≤ length (now out) ⌝ }
-    ensures { λ n. ⌜ take n (now (out .exit)) ≡ textOf (refusedZone (r .number) (r .place)) ⌝ }
-{
-    put_refusal(out, b"refused zone ", r)
 }
 
 fn put_refusal(out: &mut [u8], words: &[u8], r: Refusal) -> usize
@@ -77,7 +104,7 @@ fn put_refusal(out: &mut [u8], words: &[u8], r: Refusal) -> usize
 
 fn put_releases(out: &mut [u8], codes: &[u8]) -> usize
     requires { ⌜ (16384 ≤ length (now out)) × (length (now codes) ≤ 512) ⌝ }
-    ensures { λ n. ⌜ take n (now (out .exit)) ≡ textOf (releases (now (codes .entry))) ⌝ }
+    ensures { λ n. ⌜ take n (now (out .exit)) ≡ textOf (told (now (codes .entry))) ⌝ }
 {
     let mut n = put_header(out, codes.len());
     let mut i: usize = 0;

@@ -1,66 +1,32 @@
--- `serve::text::text_of` meets its contract: by what the report says. Assumes nothing.
-use Prim.Native.Nat.{ℕ, _≤_}
-use mathlib.Core.Path.{_≡_, sym, _∙_}
-use native.Mathlib.Omega.{arith}
-use lib.ListN.{length, take, replicate, length-replicate}
-use lib.Seq.{length-take-le}
+-- `serve::text::text_of` meets its contract. Assumes nothing.
+use mathlib.Core.Path.{_∙_}
+use Rattle.serve.proofs.Laws.Printed.{bytes-found, nothing-found, zone-same, zone-unreadable}
 use borrow.Author.Needs.{needs}
-use Rattle.serve.proofs.Laws.Text.{report-fit, report-releases, report-refused-zone, report-refused-releases}
 use Rattle.serve.proofs.text.text_of.Statement.{statement}
 use Rattle.serve.proofs.text.text_of.Tie as tie
+use Rattle.serve.proofs.text.text_of.Reads as reads
+use Rattle.serve.proofs.text.text_of.Lts as lts
+use Rattle.serve.proofs.files.first.Reads as first-reads
+use Rattle.serve.proofs.text.put.Reads as put-reads
+use Rattle.serve.proofs.text.text_in.Reads as text-in-reads
 
--- 512 bytes are lent
-room : length (replicate {A = ℕ} 512 0) ≡ 512
-room = length-replicate {A = ℕ} 512 0
+enum-known-zone : tie.Need-enum-known-zone
+enum-known-zone c = search needs
 
--- the codes fit
-fit : (c : tie.After-n) → c .n .given .0 .0 ≤ 512
-fit c =
-    let told = c .before .before .before .report .ensures in
-    report-fit _ _ _ _ _ room told _ (c .n .given .1) (c .before .before .codes2 .given)
+first-requires : tie.Need-first-requires
+first-requires c κs = search needs
 
-size : (c : tie.After-n) → length (take (c .n .given .0 .0) (c .before .before .before .report .last .1 .1 .0)) ≡ c .n .given .0 .0
-size c = length-take-le _ (c .before .before .before .report .last .1 .1 .0) (omega (arith, fit c, c .before .before .codes2 .given))
+text-in-requires : tie.Need-text-in-requires
+text-in-requires c κs = search needs
 
-slice-aggregate-report : tie.Need-slice-aggregate-report
-slice-aggregate-report c = search needs
+enum-told : tie.Need-enum-told
+enum-told c = search needs
 
-report-requires : tie.Need-report-requires
-report-requires c κs = search needs
+slice-aggregate-put : tie.Need-slice-aggregate-put
+slice-aggregate-put c = search needs
 
-enum-known-n : tie.Need-enum-known-n
-enum-known-n c = search needs
-
-array-share-prefix-codes : tie.Need-array-share-prefix-codes
-array-share-prefix-codes c =
-    let known = c .before .before in
-    omega (arith, fit known, known .before .before .codes2 .given)
-
-slice-aggregate-put-releases : tie.Need-slice-aggregate-put-releases
-slice-aggregate-put-releases c = sym (size (c .before .before .before))
-
-put-releases-requires : tie.Need-put-releases-requires
-put-releases-requires c κs =
-    let known = c .before .before .before in
-    omega (arith, fit known, size known)
-
-enum-known-r : tie.Need-enum-known-r
-enum-known-r c = search needs
-
-slice-aggregate-put-refusal : tie.Need-slice-aggregate-put-refusal
-slice-aggregate-put-refusal c = search needs
-
-put-refusal-requires : tie.Need-put-refusal-requires
-put-refusal-requires c κs = search needs
-
-enum-known-r-2 : tie.Need-enum-known-r-2
-enum-known-r-2 c = search needs
-
-slice-aggregate-put-refusal-2 : tie.Need-slice-aggregate-put-refusal-2
-slice-aggregate-put-refusal-2 c = search needs
-
-put-refusal-requires-2 : tie.Need-put-refusal-requires-2
-put-refusal-requires-2 c κs = search needs
+put-requires : tie.Need-put-requires
+put-requires c κs = search needs
 
 same-length : tie.Need-same-length
 same-length c = search needs
@@ -68,9 +34,9 @@ same-length c = search needs
 returns : tie.Need-returns
 returns c =
     let call = c .before .before in
-    let known = call .before .before .before .before in
-    let report = known .before .before .before .report in
-    call .put-releases .ensures ∙ report-releases _ _ _ _ _ room (report .ensures) _ (known .n .given .1)
+    let read = call .before .before in
+    call .text-in .ensures
+    ∙ zone-same _ _ _ (bytes-found _ _ _ _ (read .before .before .zone .given .1) (read .first .ensures))
 
 same-length-2 : tie.Need-same-length-2
 same-length-2 c = search needs
@@ -78,39 +44,20 @@ same-length-2 c = search needs
 returns-2 : tie.Need-returns-2
 returns-2 c =
     let call = c .before .before in
-    let known = call .before .before .before .before in
-    let report = known .before .before .before .report in
-    call .put-refusal .ensures ∙ report-refused-zone _ _ _ _ _ room (report .ensures) _ (known .r .given .1)
-
-same-length-3 : tie.Need-same-length-3
-same-length-3 c = search needs
-
-returns-3 : tie.Need-returns-3
-returns-3 c =
-    let call = c .before .before in
-    let known = call .before .before .before .before in
-    let report = known .before .before .before .report in
-    call .put-refusal2 .ensures ∙ report-refused-releases _ _ _ _ _ room (report .ensures) _ (known .r2 .given .1)
+    call .put .ensures .stands ∙ zone-unreadable _
+    ∙ zone-same _ _ _ (nothing-found _ _ (call .before .before .before .enum-told .given .1))
 
 pub text-of-spec : {M : Type 1} → statement M
 text-of-spec =
     tie.close
     (tie.spec
-    slice-aggregate-report
-    report-requires
-    enum-known-n
-    array-share-prefix-codes
-    slice-aggregate-put-releases
-    put-releases-requires
-    enum-known-r
-    slice-aggregate-put-refusal
-    put-refusal-requires
-    enum-known-r-2
-    slice-aggregate-put-refusal-2
-    put-refusal-requires-2
+    enum-known-zone
+    first-requires
+    text-in-requires
+    enum-told
+    slice-aggregate-put
+    put-requires
     same-length
     returns
     same-length-2
-    returns-2
-    same-length-3
-    returns-3)
+    returns-2)

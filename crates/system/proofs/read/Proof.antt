@@ -1,11 +1,11 @@
--- `serve::files::read` is safe and ends: the number of turns that are left falls. Assumes nothing.
+-- `system::read` is safe and ends: the number of turns that are left falls. Assumes nothing.
 use mathlib.Core.Path.{_≡_}
 use lib.ListN.{length}
 use borrow.Author.Needs.{needs}
-use Rattle.serve.proofs.files.read.Statement.{statement}
-use Rattle.serve.proofs.files.read.Tie as tie
-use Rattle.serve.proofs.files.read.Reads as reads
-use Rattle.serve.proofs.files.read.Lts as lts
+use Rattle.system.proofs.read.Statement.{statement}
+use Rattle.system.proofs.read.Tie as tie
+use Rattle.system.proofs.read.Reads as reads
+use Rattle.system.proofs.read.Lts as lts
 use Rattle.libc.proofs.read.Reads as read-reads
 use Rattle.os.proofs.errno.Reads as errno-reads
 

@@ -1,13 +1,13 @@
--- `serve::text::say` is safe and ends: each turn writes at least one byte. Assumes nothing.
+-- `system::write` is safe and ends: each turn writes at least one byte. Assumes nothing.
 use Prim.Native.Nat.{_≤_, _-_}
 use lib.ListN.{length}
 use borrow.Author.Needs.{needs}
-use Rattle.serve.proofs.text.say.Statement.{statement}
-use Rattle.serve.proofs.text.say.Tie as tie
-use Rattle.serve.proofs.text.say.Reads as reads
-use Rattle.serve.proofs.text.say.Lts as lts
+use Rattle.system.proofs.write.Statement.{statement}
+use Rattle.system.proofs.write.Tie as tie
+use Rattle.system.proofs.write.Reads as reads
+use Rattle.system.proofs.write.Lts as lts
 use Rattle.io.proofs.count.Reads as count-reads
-use Rattle.serve.proofs.text.write.Reads as write-reads
+use Rattle.system.proofs.taken.Reads as taken-reads
 
 abbrev Inv-loop : tie.InvT-loop
 Inv-loop text done₀ done = done ≤ length text
@@ -18,17 +18,17 @@ abbrev μ-loop : tie.MeasureT-loop
 loop-holds : tie.Need-loop-holds Inv-loop μ-loop
 loop-holds c = search needs
 
-sub-write : tie.Need-sub-write Inv-loop μ-loop
-sub-write c = search needs
+sub-taken : tie.Need-sub-taken Inv-loop μ-loop
+sub-taken c = search needs
 
-part-write-start : tie.Need-part-write-start Inv-loop μ-loop
-part-write-start c = search needs
+part-taken-start : tie.Need-part-taken-start Inv-loop μ-loop
+part-taken-start c = search needs
 
-part-write-end : tie.Need-part-write-end Inv-loop μ-loop
-part-write-end c = search needs
+part-taken-end : tie.Need-part-taken-end Inv-loop μ-loop
+part-taken-end c = search needs
 
-write-requires : tie.Need-write-requires Inv-loop μ-loop
-write-requires c κs = search needs
+taken-requires : tie.Need-taken-requires Inv-loop μ-loop
+taken-requires c κs = search needs
 
 sub-count : tie.Need-sub-count Inv-loop μ-loop
 sub-count c = search needs
@@ -41,6 +41,9 @@ part-count-end c = search needs
 
 count-requires : tie.Need-count-requires Inv-loop μ-loop
 count-requires c κs = search needs
+
+failed-requires : tie.Need-failed-requires Inv-loop μ-loop
+failed-requires c κs = search needs
 
 returns : tie.Need-returns Inv-loop μ-loop
 returns c = search needs
@@ -57,21 +60,22 @@ loop-again c = search needs
 returns-2 : tie.Need-returns-2 Inv-loop μ-loop
 returns-2 c = search needs
 
-pub say-spec : {M : Type 1} → statement M
-say-spec =
+pub write-spec : {M : Type 1} → statement M
+write-spec =
     tie.close
     (tie.spec
     Inv-loop
     μ-loop
     loop-holds
-    sub-write
-    part-write-start
-    part-write-end
-    write-requires
+    sub-taken
+    part-taken-start
+    part-taken-end
+    taken-requires
     sub-count
     part-count-start
     part-count-end
     count-requires
+    failed-requires
     returns
     add-done
     loop-less

@@ -1,14 +1,14 @@
--- `serve::files::filled` is safe and ends: each turn reads at least one byte. Assumes nothing.
+-- `system::files::filled` is safe and ends: each turn reads at least one byte. Assumes nothing.
 use Prim.Native.Nat.{_≤_, _-_}
 use mathlib.Core.Path.{_≡_}
 use lib.ListN.{length}
 use borrow.Author.Needs.{needs}
-use Rattle.serve.proofs.files.filled.Statement.{statement}
-use Rattle.serve.proofs.files.filled.Tie as tie
-use Rattle.serve.proofs.files.filled.Reads as reads
-use Rattle.serve.proofs.files.filled.Lts as lts
+use Rattle.system.proofs.files.filled.Statement.{statement}
+use Rattle.system.proofs.files.filled.Tie as tie
+use Rattle.system.proofs.files.filled.Reads as reads
+use Rattle.system.proofs.files.filled.Lts as lts
 use Rattle.io.proofs.count.Reads as count-reads
-use Rattle.serve.proofs.files.read.Reads as read-reads
+use Rattle.system.proofs.read.Reads as read-reads
 
 abbrev Inv-loop : tie.InvT-loop
 Inv-loop fd buf₀ n₀ buf n = (n ≤ length buf) × (length buf ≡ length buf₀)

@@ -1,9 +1,9 @@
--- `serve::text::write` is safe and ends: the number of turns that are left falls. Assumes nothing.
+-- `system::taken` is safe and ends: the number of turns that are left falls. Assumes nothing.
 use borrow.Author.Needs.{needs}
-use Rattle.serve.proofs.text.write.Statement.{statement}
-use Rattle.serve.proofs.text.write.Tie as tie
-use Rattle.serve.proofs.text.write.Reads as reads
-use Rattle.serve.proofs.text.write.Lts as lts
+use Rattle.system.proofs.taken.Statement.{statement}
+use Rattle.system.proofs.taken.Tie as tie
+use Rattle.system.proofs.taken.Reads as reads
+use Rattle.system.proofs.taken.Lts as lts
 use Rattle.libc.proofs.write.Reads as write-reads
 use Rattle.os.proofs.errno.Reads as errno-reads
 
@@ -40,8 +40,8 @@ loop-again c = search needs
 returns-3 : tie.Need-returns-3 Inv-loop μ-loop
 returns-3 c = search needs
 
-pub write-spec : {M : Type 1} → statement M
-write-spec =
+pub taken-spec : {M : Type 1} → statement M
+taken-spec =
     tie.close
     (tie.spec
     Inv-loop
