@@ -5,7 +5,7 @@ FOLDERS=32
 
 # The folders under a root that hold a zone.trk, each ended by a zero byte.
 folders_under() {
-    local path file
+    local path
     path_of "$1"
     find -H "$path" -name zone.trk -print0 || : >"$work/unseen"
 }
