@@ -6,6 +6,7 @@ from pathlib import Path
 
 from commanded import CUT, DESK, OTHER, PLACES, ROOT, THREE, folder, run
 
+MACHINE = os.uname().machine
 NEEDED = ["bash", "cat", "chmod", "find", "getconf", "mktemp", "nproc", "readlink", "rm", "sort", "touch", "uname", "xargs"]
 
 
@@ -21,10 +22,20 @@ def copy_of(place, tools, program):
     for name in tools:
         if shutil.which(name):
             (place / "path" / name).symlink_to(shutil.which(name))
+    if MACHINE != "x86_64":
+        add_emulator(place / "path" / "qemu-x86_64", isinstance(program, Path))
     if program:
         install(place, program)
     environment = {"PATH": str(place / "path"), "TMPDIR": str(place)}
     return lambda *words, **options: run([str(place / "repository" / "desk"), *words], cwd=place, env=environment, **options)
+
+
+def add_emulator(path, of_built):
+    """For a machine of another kind: what starts a built program, which is made for x86-64, or a script that stands in for one."""
+    tools = Path(shutil.which("rt")).resolve().parent.parent / "on" / MACHINE / "toolchain"
+    starts = f"{tools}/bin/qemu-x86_64 {tools}/lib/ld-linux-x86-64.so.2 --library-path {tools}/lib" if of_built else ""
+    path.write_text(f'#!/bin/sh\nexec {starts} "$@"\n')
+    path.chmod(0o755)
 
 
 def install(place, program):

@@ -1,9 +1,6 @@
 // The reply to each whole line.
+use crate::held::Bytes;
 use crate::held::List;
-use crate::held::Token;
-use crate::line::Line;
-use crate::line::Question;
-use crate::line::ended;
 use crate::numbers;
 use crate::part::first;
 use crate::reply;
@@ -11,59 +8,48 @@ use crate::reply::Reply;
 use crate::sides;
 use crate::sums;
 use crate::tracks;
-use crate::word;
+use line::answer::Asked;
+use line::answer::Question;
+use line::answer::Word;
 
-// The reply to a line that has ended. Of a line that is copied only the line end is left.
-pub fn answer(line: Line, token: &mut Token, list: &mut List) -> Reply {
-    let whole = ended(line, token, list);
-    if let Line::Asking(q) = whole {
-        return asked(q, token, list);
-    }
-    if let Line::Reading(f) = whole {
-        return tracks::read(f.room, first(token, f.digits / 2), list);
-    }
-    unasked(whole)
-}
-
-// A line that asks nothing.
-fn unasked(line: Line) -> Reply {
-    match line {
-        Line::Empty | Line::Comment => reply::blank(),
-        _ => reply::unclear(),
+// The reply to what a line asks, with the first `taken` numbers that are held. Of a line that is copied only the line end is left.
+pub fn answer(asked: Asked, taken: usize, bytes: &mut Bytes, list: &mut List) -> Reply {
+    match asked {
+        Asked::Nothing => reply::blank(),
+        Asked::Unclear => reply::unclear(),
+        Asked::OfDoubles(q) => questioned(q, taken, bytes, list),
+        Asked::OfFile(room) => tracks::read(room, first(bytes, taken), list),
     }
 }
 
 // The doubles of a question are the first of the list, so that no more were taken than it holds.
-fn asked(q: Question, token: &mut [u8], list: &mut [f64]) -> Reply {
-    let n = q.taken;
-    if list.len() < n {
+fn questioned(q: Question, taken: usize, bytes: &mut [u8], list: &mut [f64]) -> Reply {
+    if list.len() < taken {
         return reply::unclear();
     }
-    if !q.counted {
-        return reply::unclear();
+    let word = q.word;
+    if let Word::Write = word {
+        return tracks::write(q.count, &list[..taken], bytes);
     }
-    if q.word == word::WRITE {
-        return tracks::write(q.count, &list[..n], token);
-    }
-    told(q.word, q.count, &mut list[..n])
+    told(word, q.count, &mut list[..taken])
 }
 
 // A question that a run may alter the doubles of.
-fn told(word: usize, count: u32, list: &mut [f64]) -> Reply {
-    if word == word::RUN {
+fn told(word: Word, count: u32, list: &mut [f64]) -> Reply {
+    if let Word::Run = word {
         return sums::run(list, count);
     }
     looked(word, list)
 }
 
 // A question of doubles alone.
-fn looked(word: usize, list: &[f64]) -> Reply {
+fn looked(word: Word, list: &[f64]) -> Reply {
     match word {
-        word::APART => numbers::apart(list),
-        word::CEILING => sums::ceiling(list),
-        word::PLAIN => sums::plain(list),
-        word::SIDE => sides::side(list),
-        word::ZONE => sides::zone(list),
-        _ => reply::unclear(),
+        Word::Apart => numbers::apart(list),
+        Word::Ceiling => sums::ceiling(list),
+        Word::Plain => sums::plain(list),
+        Word::Side => sides::side(list),
+        Word::Zone => sides::zone(list),
+        Word::Run | Word::Write | Word::Read => reply::unclear(),
     }
 }

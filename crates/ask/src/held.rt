@@ -1,11 +1,12 @@
 // The memory that the tool has: nothing else grows with its input.
 
-// Bytes of a word or a file that are held, and the most that are lent to the writer. (A double's word has 16, and of a file 10,243 are enough.)
-pub const TOKEN: usize = 10300;
+// Bytes of a file that are held, and the most that are lent to the writer. (10,243 are enough.)
+pub const HELD: usize = 10300;
 
-pub type Token = [u8; TOKEN];
+pub type Bytes = [u8; HELD];
 
-// Doubles of a question that are held, and the most that are lent to the reader. (Two more than the longest list that is accepted are enough.)
+// Doubles of a question that are held, and the most that are lent to the reader. (Two more than the longest list that is accepted are
+// enough.)
 pub const LIST: usize = 1100;
 
 pub type List = [f64; LIST];

@@ -1,8 +1,8 @@
 // The answers on their way out: `out` holds the bytes that are not written yet, `len` of them, and each function answers the new `len`.
 // After a write that failed `len` is `BROKEN`, and nothing is put or written any more.
+use crate::held::Bytes;
 use crate::held::List;
 use crate::held::Out;
-use crate::held::Token;
 use crate::part::first;
 use crate::part::first_doubles;
 use crate::reply::Reply;
@@ -33,11 +33,11 @@ pub fn put(out: &mut Out, len: usize, b: u8) -> usize {
     1
 }
 
-// The answer line of a reply, whose bytes and doubles are the first of `token` and `list`.
-pub fn put_reply(out: &mut Out, len: usize, r: Reply, token: &Token, list: &List) -> usize {
+// The answer line of a reply, whose bytes and doubles are the first that are held.
+pub fn put_reply(out: &mut Out, len: usize, r: Reply, bytes: &Bytes, list: &List) -> usize {
     let n = put_head(out, len, r);
     let k = put_doubles(out, n, first_doubles(list, r.doubles));
-    let e = put_bytes(out, k, first(token, r.bytes));
+    let e = put_bytes(out, k, first(bytes, r.bytes));
     put(out, e, b'\n')
 }
 

@@ -12,7 +12,7 @@ pub struct Reply {
     pub a: u64,
     pub b: u64,
     pub c: u64,
-    // How many of the list's first doubles follow, and of the token's first bytes.
+    // How many of the list's first doubles follow, and of the first bytes that are held.
     pub doubles: usize,
     pub bytes: usize,
 }

@@ -1,4 +1,4 @@
-// The words of questions and answers: each is a row of ten letters, filled up with spaces.
+// The words of answers: each is a row of ten letters, filled up with spaces.
 pub const APART: usize = 0;
 
 pub const RUN: usize = 1;
@@ -68,36 +68,4 @@ pub fn letter(word: usize, i: usize) -> u8 {
         return b' ';
     }
     ROWS[word][i]
-}
-
-// The word that a question begins with, of those before `refused`.
-pub fn word_of(token: &[u8]) -> usize {
-    let mut word = APART;
-    while word < REFUSED {
-        if is_word(token, word) {
-            return word;
-        }
-        word += 1;
-    }
-    NONE
-}
-
-// Whether a token, which has no space, is a word.
-fn is_word(token: &[u8], word: usize) -> bool {
-    let mut i: usize = 0;
-    while i < token.len() {
-        if token[i] != letter(word, i) {
-            return false;
-        }
-        i += 1;
-    }
-    letter(word, i) == b' '
-}
-
-// Whether the first argument is a count.
-pub fn takes_count(word: usize) -> bool {
-    match word {
-        RUN | WRITE | READ => true,
-        _ => false,
-    }
 }

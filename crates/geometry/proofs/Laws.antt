@@ -3,8 +3,6 @@
 pub mod Product
 -- the twelve summands: their total is the determinant
 pub mod Summands
--- stages 1 and 2 never answer wrongly
-pub mod Filter
 -- stage 3 answers, and with the determinant's sign
 pub mod Exact
 -- the side: its sign, stage and steps, its refusals, and no two results

@@ -11,6 +11,7 @@ use Rattle.ground.specs.Zone.{countOf}
 use Rattle.refusal.specs.Outcome.{Outcome, answers, refuses}
 use Rattle.point.specs.declared.Point.{Point}
 use Rattle.point.specs.Accepted.{acceptingFrom}
+use Rattle.point.specs.Spot.{unit}
 use Rattle.geometry.specs.declared.edges.Crossing.{Crossing}
 use Rattle.geometry.specs.declared.edges.Crossing.the-variants.{None, Up, Down}
 use Rattle.geometry.specs.declared.zones.Counts.{Counts}
@@ -18,7 +19,7 @@ use Rattle.geometry.specs.declared.zones.Fault.{Fault}
 use Rattle.geometry.specs.declared.zones.Fault.the-variants.{None as FaultNone, At as FaultAt}
 use lib.IntN.{_+ℤ_, _*ℤ_}
 use Rattle.double.specs.Worth.{worth}
-use Rattle.geometry.specs.Product.{unit, roundoffOf}
+use Rattle.geometry.specs.Product.{roundoffOf}
 use Rattle.geometry.specs.declared.product.Product.{Product}
 
 -- ---- of the exact product

@@ -1,15 +1,11 @@
 -- The exact product of two doubles, and the twelve summands of stage 3.
-use Prim.Native.Nat.{_^_}
 use mathlib.Core.List.{List, [], _∷_, _++_}
-use lib.IntN.{ℤ, pos, _-ℤ_, _*ℤ_}
+use lib.IntN.{_-ℤ_, _*ℤ_}
 use lib.Signed.{quotZ}
 use lib.Ieee.{Float, binary64, mul, neg}
 use Rattle.double.specs.Worth.{worth, doubleOf}
 use Rattle.point.specs.declared.Point.{Point}
-
--- a whole number of units in squares of units
-abbrev pub unit : ℤ
-unit = pos (2 ^ 1074)
+use Rattle.point.specs.Spot.{unit}
 
 -- Side 10: the roundoff: the double of what the rounded product lacks of the exact one; +0 where that is nothing
 unfoldable pub roundoffOf : Float → Float → Float

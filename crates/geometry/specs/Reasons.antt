@@ -9,10 +9,10 @@ use Rattle.refusal.specs.Outcome.{tooMany, notAccepted, tooFewCorners, oddLengt
 use Rattle.refusal.specs.Search.{IsFirst}
 use Rattle.point.specs.declared.Point.{Point}
 use Rattle.point.specs.Accepted.{acceptedOf}
+use Rattle.point.specs.Spot.{spotOf}
 use Rattle.geometry.specs.Side.{sixOf}
 use Rattle.ground.specs.Edge.{edgesOf, onEdge}
 use Rattle.ground.specs.Zone.{Tally, tallyOf}
-use Rattle.geometry.specs.Spot.{spotOf}
 use Rattle.geometry.specs.Zone.{fewest, most, cornersOf, edgeAt}
 
 -- a side is refused with this number and place

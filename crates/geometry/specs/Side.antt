@@ -1,24 +1,22 @@
 -- The side of r against the line from p to q: three stages, and the refusals of `side`.
 use Prim.Native.Nat.{ℕ}
 use mathlib.Core.Path.{_≡_}
-use mathlib.Core.Bool.{true}
 use mathlib.Core.List.{List, [], _∷_}
-use lib.Dec.{T}
-use lib.IntN.{ℤ, pos}
-use lib.Ieee.{Float, binary64, fits}
+use lib.IntN.{ℤ, pos, negsuc}
+use lib.Ieee.{Float}
 use Rattle.refusal.specs.Outcome.{Outcome, answers, refuses}
 use Rattle.refusal.specs.Search.{passingFrom}
 use Rattle.point.specs.declared.Point.{Point}
-use Rattle.point.specs.Accepted.{acceptedWithin, acceptedOf, acceptingFrom}
+use Rattle.point.specs.Accepted.{acceptedWithin, acceptingFrom}
 use Rattle.sum.specs.Total.{signNumber}
 use Rattle.sum.specs.Run.{Decision, sign, undecided, Told, runOf, mostBudget}
-use Rattle.geometry.specs.Filter.{filterOf}
+use Rattle.side_filter.specs.declared.answer.Early.{Early}
+use Rattle.side_filter.specs.declared.answer.Early.the-variants.{Level, Plus, Minus, Open}
+use Rattle.side_filter.specs.Filter.{filterOf}
 use Rattle.geometry.specs.Product.{summandsOf}
 use Rattle.geometry.specs.declared.answer.Turn.{Turn}
 use Rattle.geometry.specs.declared.answer.Side.{Side}
 use Rattle.geometry.specs.declared.answer.Side.the-variants.{Of, Refused}
-use Rattle.geometry.specs.declared.filter.Early.{Early}
-use Rattle.geometry.specs.declared.filter.Early.the-variants.{Level, Clear, Open}
 
 -- Side 2: the sign, the stage that found it, and the steps: 0 in stages 1 and 2
 pub record Turned : Type 0 where
@@ -46,7 +44,8 @@ exactOf p q r = byRun (runOf (summandsOf p q r) mostBudget)
 
 abbrev pub byStage : Early → Turned → Turned
 byStage Level exact = turned (pos 0) 1 0
-byStage (Clear s) exact = turned (signNumber s) 2 0
+byStage Plus exact = turned (pos 1) 2 0
+byStage Minus exact = turned (negsuc 0) 2 0
 byStage Open exact = exact
 
 unfoldable pub turnOf : Point → Point → Point → Turned
@@ -79,15 +78,3 @@ SideSays p q r s = said s ≡ sideOf p q r
 -- Side 14: the most steps of a side; that they are never more is a law (Laws.Calls)
 abbrev pub mostSteps : ℕ
 mostSteps = 480
-
--- ---- points
-
--- both coordinates of a point are accepted
-pub record Accepted (p : Point) : Type 0 where
-  pub x : acceptedOf (p .x) ≡ true
-  pub y : acceptedOf (p .y) ≡ true
-
--- what a point that is handed in is made of: the format holds both coordinates
-pub record OfDoubles (p : Point) : Type 0 where
-  pub x : T (fits binary64 (p .x))
-  pub y : T (fits binary64 (p .y))

@@ -14,9 +14,8 @@ use Rattle.refusal.specs.Search.{passingFrom}
 use Rattle.refusal.specs.Judged.{require, also}
 use Rattle.double.specs.Worth.{worth}
 use Rattle.point.specs.declared.Point.{Point}
-use Rattle.point.specs.Accepted.{acceptedWithin, acceptingFrom}
-use Rattle.geometry.specs.Spot.{spotOf}
-use Rattle.geometry.specs.Side.{Accepted}
+use Rattle.point.specs.Accepted.{acceptedWithin, acceptingFrom, Accepted}
+use Rattle.point.specs.Spot.{spotOf}
 use Rattle.geometry.specs.declared.answer.Place.{Place}
 use Rattle.geometry.specs.declared.answer.Place.the-variants.{Outside, Border, Inside}
 use Rattle.geometry.specs.declared.answer.Zone.{Zone}

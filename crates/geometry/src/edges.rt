@@ -1,8 +1,8 @@
 // One edge of a zone and a point, all accepted: whether it is on the edge, and how the edge counts.
 ghost use mathlib.Core.Path.{_≡_};
-ghost use Rattle.geometry.specs.Side.{Accepted};
 ghost use Rattle.ground.specs.Edge.{edge, onEdge};
-ghost use Rattle.geometry.specs.Spot.{spotOf};
+ghost use Rattle.point.specs.Accepted.{Accepted};
+ghost use Rattle.point.specs.Spot.{spotOf};
 ghost use Rattle.geometry.specs.Parts.{liesBetween, InBox, Rises, Falls, crossingOf};
 use crate::turning::turn;
 use point::Point;

@@ -1,9 +1,8 @@
 // The side of a point, and the zone.
 //
-// No public function has a `requires`. What lies inside is private: the exact product, the filter, and the side of accepted points.
+// No public function has a `requires`. What lies inside is private: the exact product, and the side of accepted points.
 pub mod answer;
 mod edges;
-mod filter;
 pub mod limit;
 mod product;
 mod sides;

@@ -2,9 +2,9 @@
 ghost use mathlib.Core.Path.{_≡_};
 ghost use Rattle.double.proofs.Laws.Splitting.{highHalf};
 ghost use Rattle.double.proofs.Laws.ExactProduct.{Factors};
+ghost use Rattle.point.specs.Accepted.{Accepted};
 ghost use Rattle.geometry.specs.Product.{summandsOf};
 ghost use Rattle.geometry.specs.Parts.{ExactProduct};
-ghost use Rattle.geometry.specs.Side.{Accepted};
 use point::Point;
 
 // 2^27 + 1 parts 53 digits into two halves.

@@ -2,9 +2,9 @@
 ghost use mathlib.Core.Path.{_≡_};
 ghost use Prim.Native.Nat.{_+_, _*_, _≤_, _<_};
 ghost use lib.ListN.{length};
-ghost use Rattle.geometry.specs.Side.{Accepted};
 ghost use Rattle.ground.specs.Edge.{edge, edgesOf, onEdge};
-ghost use Rattle.geometry.specs.Spot.{spotOf};
+ghost use Rattle.point.specs.Accepted.{Accepted};
+ghost use Rattle.point.specs.Spot.{spotOf};
 ghost use Rattle.geometry.specs.Zone.{most, cornersOf, placeIn, placeSaid, cornerAt, nextOf, Zoned, ZoneSays};
 ghost use Rattle.geometry.specs.Parts.{crossingOf, withEdge, countsOf, cornersFault, faultSaid};
 use crate::answer::Place;

@@ -1,2 +1,3 @@
--- The laws of accepted coordinates.
+-- The laws of accepted coordinates, and of points of them.
 pub mod Accepted
+pub mod Within

@@ -1,2 +1,3 @@
--- What a reader must believe of a coordinate.
+-- What a reader must believe of a coordinate and of a point.
 pub mod Accepted
+pub mod Spot

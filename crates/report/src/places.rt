@@ -2,7 +2,7 @@
 ghost use mathlib.Core.Path.{_≡_};
 ghost use Prim.Native.Nat.{_/_, _≤_};
 ghost use lib.ListN.{length};
-ghost use Rattle.geometry.specs.Side.{Accepted};
+ghost use Rattle.point.specs.Accepted.{Accepted};
 ghost use Rattle.geometry.specs.Zone.{placeSaid};
 ghost use Rattle.ground.specs.Zone.{placeNumber};
 ghost use Rattle.track.specs.Write.{AllAccepted};

@@ -6,7 +6,7 @@ ghost use Rattle.track.specs.File.{limit};
 ghost use Rattle.report.specs.Report.{reportOf, releases as told};
 ghost use Rattle.serve.specs.Text.{decimal, placeText, lineText, headerText, refusalText, textOf};
 ghost use Rattle.serve.specs.Printed.{bytes, nothing, found, printed, isGood};
-ghost use Rattle.serve.specs.Parts.{Puts};
+ghost use Rattle.serve.specs.Parts.{textRoom, Puts};
 use crate::files::first;
 use refusal::Refusal;
 use report::answer::Judged;
@@ -16,6 +16,9 @@ use track::limit::POINTS;
 
 // Room for every text: a header of at most 30 bytes, and 512 lines of at most 29.
 pub const TEXT: usize = 16384;
+
+// Lent as an array: a reference to one is handed on with less to prove than a slice.
+pub type Text = [u8; TEXT];
 
 // Whether the zone could be read and is not refused.
 pub fn is_good(zone: Held, zone_bytes: &[u8]) -> bool
@@ -42,11 +45,12 @@ pub fn text_of(
     zone_bytes: &[u8],
     releases: Held,
     release_bytes: &[u8],
-    out: &mut [u8],
+    out: &mut Text,
 ) -> usize
-    requires { ⌜ 16384 ≤ length (now out) ⌝ }
-    ensures { λ r. ⌜ take r (now (out .exit))
-        ≡ printed (found zone (now («zone_bytes» .entry))) (found releases (now («release_bytes» .entry))) ⌝ }
+    requires { ⌜ textRoom ≤ length (now out) ⌝ }
+    ensures { λ r. ⌜ (take r (now (out .exit))
+        ≡ printed (found zone (now («zone_bytes» .entry))) (found releases (now («release_bytes» .entry))))
+        × (length (now (out .exit)) ≡ length (now (out .entry))) ⌝ }
 {
     match zone {
         Held::Bytes(n) => text_in(first(zone_bytes, n), releases, release_bytes, out),
@@ -55,9 +59,10 @@ pub fn text_of(
 }
 
 // The same where the zone could be read.
-fn text_in(zone: &[u8], releases: Held, release_bytes: &[u8], out: &mut [u8]) -> usize
-    requires { ⌜ 16384 ≤ length (now out) ⌝ }
-    ensures { λ r. ⌜ take r (now (out .exit)) ≡ printed (bytes (now (zone .entry))) (found releases (now («release_bytes» .entry))) ⌝ }
+fn text_in(zone: &[u8], releases: Held, release_bytes: &[u8], out: &mut Text) -> usize
+    requires { ⌜ textRoom ≤ length (now out) ⌝ }
+    ensures { λ r. ⌜ (take r (now (out .exit)) ≡ printed (bytes (now (zone .entry))) (found releases (now («release_bytes» .entry))))
+        × (length (now (out .exit)) ≡ length (now (out .entry))) ⌝ }
 {
     match releases {
         Held::Bytes(n) => text_of_report(zone, first(release_bytes, n), out),
@@ -66,9 +71,10 @@ fn text_in(zone: &[u8], releases: Held, release_bytes: &[u8], out: &mut [u8]) ->
 }
 
 // The same where the releases could not be read.
-fn text_without(zone: &[u8], out: &mut [u8]) -> usize
-    requires { ⌜ 16384 ≤ length (now out) ⌝ }
-    ensures { λ r. ⌜ take r (now (out .exit)) ≡ printed (bytes (now (zone .entry))) nothing ⌝ }
+fn text_without(zone: &[u8], out: &mut Text) -> usize
+    requires { ⌜ textRoom ≤ length (now out) ⌝ }
+    ensures { λ r. ⌜ (take r (now (out .exit)) ≡ printed (bytes (now (zone .entry))) nothing)
+        × (length (now (out .exit)) ≡ length (now (out .entry))) ⌝ }
 {
     match report::judge(zone) {
         Judged::Corners(_) => put(out, 0, b"unreadable releases\n"),
@@ -77,9 +83,10 @@ fn text_without(zone: &[u8], out: &mut [u8]) -> usize
 }
 
 // The same where both could be read.
-fn text_of_report(zone: &[u8], releases: &[u8], out: &mut [u8]) -> usize
-    requires { ⌜ 16384 ≤ length (now out) ⌝ }
-    ensures { λ r. ⌜ take r (now (out .exit)) ≡ textOf (reportOf (now (zone .entry)) (now (releases .entry)) limit) ⌝ }
+fn text_of_report(zone: &[u8], releases: &[u8], out: &mut Text) -> usize
+    requires { ⌜ textRoom ≤ length (now out) ⌝ }
+    ensures { λ r. ⌜ (take r (now (out .exit)) ≡ textOf (reportOf (now (zone .entry)) (now (releases .entry)) limit))
+        × (length (now (out .exit)) ≡ length (now (out .entry))) ⌝ }
 {
     let mut codes = [0u8; POINTS];
     match report::report(zone, releases, &mut codes) {
@@ -89,9 +96,10 @@ fn text_of_report(zone: &[u8], releases: &[u8], out: &mut [u8]) -> usize
     }
 }
 
-fn put_refusal(out: &mut [u8], words: &[u8], r: Refusal) -> usize
-    requires { ⌜ (16384 ≤ length (now out)) × (length (now words) ≤ 32) ⌝ }
-    ensures { λ n. ⌜ take n (now (out .exit)) ≡ refusalText (now (words .entry)) (r .number) (r .place) ⌝ }
+fn put_refusal(out: &mut Text, words: &[u8], r: Refusal) -> usize
+    requires { ⌜ (textRoom ≤ length (now out)) × (length (now words) ≤ 32) ⌝ }
+    ensures { λ n. ⌜ (take n (now (out .exit)) ≡ refusalText (now (words .entry)) (r .number) (r .place))
+        × (length (now (out .exit)) ≡ length (now (out .entry))) ⌝ }
 {
     let number = r.number as u64;
     let place = r.place as u64;
@@ -102,9 +110,10 @@ fn put_refusal(out: &mut [u8], words: &[u8], r: Refusal) -> usize
     put(out, n, b"\n")
 }
 
-fn put_releases(out: &mut [u8], codes: &[u8]) -> usize
-    requires { ⌜ (16384 ≤ length (now out)) × (length (now codes) ≤ 512) ⌝ }
-    ensures { λ n. ⌜ take n (now (out .exit)) ≡ textOf (told (now (codes .entry))) ⌝ }
+fn put_releases(out: &mut Text, codes: &[u8]) -> usize
+    requires { ⌜ (textRoom ≤ length (now out)) × (length (now codes) ≤ 512) ⌝ }
+    ensures { λ n. ⌜ (take n (now (out .exit)) ≡ textOf (told (now (codes .entry))))
+        × (length (now (out .exit)) ≡ length (now (out .entry))) ⌝ }
 {
     let mut n = put_header(out, codes.len());
     let mut i: usize = 0;
@@ -115,8 +124,8 @@ fn put_releases(out: &mut [u8], codes: &[u8]) -> usize
     n
 }
 
-fn put_header(out: &mut [u8], many: usize) -> usize
-    requires { ⌜ 30 ≤ length (now out) ⌝ }
+fn put_header(out: &mut Text, many: usize) -> usize
+    requires { ⌜ textRoom ≤ length (now out) ⌝ }
     ensures { λ r. ⌜ Puts 30 (now (out .entry)) 0 (headerText many) r (now (out .exit)) ⌝ }
 {
     let mut n = put(out, 0, b"releases ");
@@ -124,8 +133,8 @@ fn put_header(out: &mut [u8], many: usize) -> usize
     put(out, n, b"\n")
 }
 
-fn put_line(out: &mut [u8], len: usize, release: usize, place: u8) -> usize
-    requires { ⌜ len + 29 ≤ length (now out) ⌝ }
+fn put_line(out: &mut Text, len: usize, release: usize, place: u8) -> usize
+    requires { ⌜ (len + 29 ≤ textRoom) × (textRoom ≤ length (now out)) ⌝ }
     ensures { λ r. ⌜ Puts 29 (now (out .entry)) len (lineText release place) r (now (out .exit)) ⌝ }
 {
     let n = put_decimal(out, len, release as u64);
@@ -133,8 +142,8 @@ fn put_line(out: &mut [u8], len: usize, release: usize, place: u8) -> usize
 }
 
 // The end of a release's line.
-fn put_place(out: &mut [u8], len: usize, place: u8) -> usize
-    requires { ⌜ len + 9 ≤ length (now out) ⌝ }
+fn put_place(out: &mut Text, len: usize, place: u8) -> usize
+    requires { ⌜ (len + 9 ≤ textRoom) × (textRoom ≤ length (now out)) ⌝ }
     ensures { λ r. ⌜ Puts 9 (now (out .entry)) len (placeText place) r (now (out .exit)) ⌝ }
 {
     match place {
@@ -144,8 +153,8 @@ fn put_place(out: &mut [u8], len: usize, place: u8) -> usize
     }
 }
 
-fn put_decimal(out: &mut [u8], len: usize, value: u64) -> usize
-    requires { ⌜ len + 20 ≤ length (now out) ⌝ }
+fn put_decimal(out: &mut Text, len: usize, value: u64) -> usize
+    requires { ⌜ (len + 20 ≤ textRoom) × (textRoom ≤ length (now out)) ⌝ }
     ensures { λ r. ⌜ Puts 20 (now (out .entry)) len (decimal value) r (now (out .exit)) ⌝ }
 {
     let mut digits = [0u8; 20];
@@ -154,8 +163,8 @@ fn put_decimal(out: &mut [u8], len: usize, value: u64) -> usize
 }
 
 // Puts text after the first `len` bytes of `out`, and answers how many bytes stand then.
-fn put(out: &mut [u8], len: usize, text: &[u8]) -> usize
-    requires { ⌜ len + length (now text) ≤ length (now out) ⌝ }
+fn put(out: &mut Text, len: usize, text: &[u8]) -> usize
+    requires { ⌜ (len + length (now text) ≤ textRoom) × (textRoom ≤ length (now out)) ⌝ }
     ensures { λ r. ⌜ Puts (length (now (text .entry))) (now (out .entry)) len (now (text .entry)) r (now (out .exit)) ⌝ }
 {
     let mut i: usize = 0;

@@ -1,2 +1,2 @@
--- The hand-written modules of this crate: there is no function.
+-- The hand-written modules of this crate that belong to no one function.
 pub mod Laws

@@ -1,1 +1,7 @@
-// The filter of a side, stages 1 and 2: its error bound in numbers and at the doubles. Laws; no function.
+// The filter of a side: its first two stages, by doubles alone.
+//
+// No public function has a `requires`.
+pub mod answer;
+mod filter;
+
+pub use filter::filtered;

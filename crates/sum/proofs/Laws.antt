@@ -33,10 +33,8 @@ pub mod Ceiling
 pub mod Descent
 -- how many steps the rule takes, and what a budget makes of them
 pub mod Settled
--- what words are worth, and their sign
+-- the sign that words hold
 pub mod Words
--- words that change: carry, borrow, an entry more
-pub mod Changed
 -- the plain sum, and what `plain` promises
 pub mod Plain
 -- the demands, of whatever keeps the promises of `run`, `ceiling` and `plain`: what callers cite

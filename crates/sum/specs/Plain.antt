@@ -1,4 +1,4 @@
--- The plain sum: docs/RULES.md, section Plain. Here the sign that it answers; the words that hold its total are in Words.
+-- The plain sum: docs/RULES.md, section Plain. Here the sign that it answers; how words hold it is in Words.
 use mathlib.Core.Path.{_≡_}
 use mathlib.Core.List.{List}
 use lib.IntN.{ℤ}

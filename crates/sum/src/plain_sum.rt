@@ -2,16 +2,14 @@
 ghost use Rattle.sum.specs.Plain.{PlainSays};
 use crate::answer::Plain;
 use crate::fault::LIMIT;
-use crate::words::WORDS;
-use crate::words::put;
 use crate::words::sign_of;
-use double::answer::Taken;
-use double::take_apart;
 use refusal::NOT_FINITE;
 use refusal::Refusal;
 use refusal::TOO_MANY;
+use total::WORDS;
+use total::add;
 
-// The sign of the list's total. One pass: an entry that has no parts is the first that is not finite.
+// The sign of the list's total. One pass: the first entry that is not added is the first that is not finite.
 pub fn plain(list: &[f64]) -> Plain
     ensures { λ r. ⌜ PlainSays (now (list .entry)) r ⌝ }
 {
@@ -24,13 +22,12 @@ pub fn plain(list: &[f64]) -> Plain
     let mut words = [0u64; WORDS];
     let mut i: usize = 0;
     while i < list.len() {
-        let Taken::Apart(p) = take_apart(list[i]) else {
+        if !add(&mut words, list[i]) {
             return Plain::Refused(Refusal {
                 number: NOT_FINITE,
                 place: i,
             });
-        };
-        put(&mut words, p);
+        }
         i += 1;
     }
     Plain::Signed(sign_of(&words))

@@ -1,16 +1,6 @@
 -- The laws of the track file, each file over those above it.
--- a number as it is written
-pub mod Written
--- the number that any bytes begin with
-pub mod Number
--- the bytes of a number that was read
-pub mod Taken
--- the bytes at which a number is refused
-pub mod Faults
--- the difference of two patterns
-pub mod Difference
--- one coordinate of a file
-pub mod Coordinate
+-- a number that is written by stores
+pub mod Put
 -- the coordinates of a file up to what stops a reader
 pub mod Scan
 -- the bytes of a list of points

@@ -3,8 +3,8 @@ use Prim.Native.Nat.{ℕ, _+_, _*_, _/_}
 use mathlib.Core.List.{List, [], _∷_, _++_}
 use lib.ListN.{length}
 use lib.Ieee.{Float, binary64, toBits}
-use Rattle.track.specs.Number.{writtenOf}
-use Rattle.track.specs.Difference.{storedOf}
+use Rattle.number.specs.Number.{writtenOf}
+use Rattle.coordinate.specs.Difference.{storedOf}
 
 -- Track 3: the most points
 abbrev pub limit : ℕ

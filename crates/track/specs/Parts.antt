@@ -11,7 +11,7 @@ use Rattle.refusal.specs.Judged.{also, filled}
 use Rattle.track.specs.File.{limit, coordinateBytes}
 use Rattle.track.specs.declared.writer.Measured.{Measured}
 use Rattle.track.specs.declared.writer.Measured.the-variants.{Length as Bytes, Refused as Bad}
-use Rattle.track.specs.declared.number.Number.{Number}
+use Rattle.number.specs.declared.answer.Number.{Number}
 use Rattle.track.specs.declared.answer.Reading.{Reading}
 use Rattle.track.specs.declared.reader.Decoded.{Decoded}
 use Rattle.track.specs.declared.reader.Decoded.the-variants.{Whole, Refused as Stopped}

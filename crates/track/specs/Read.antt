@@ -7,10 +7,10 @@ use lib.ListN.{length}
 use lib.Ieee.{Float}
 use Rattle.refusal.specs.Outcome.{Outcome, answers, refuses, tooMany, noRoom}
 use Rattle.refusal.specs.Judged.{require, also, filled}
-use Rattle.track.specs.Number.{numberOf}
+use Rattle.number.specs.Number.{numberOf}
 use Rattle.track.specs.Scan.{scanFrom, values}
 use Rattle.track.specs.File.{limit}
-use Rattle.track.specs.declared.number.Number.{Number}
+use Rattle.number.specs.declared.answer.Number.{Number}
 use Rattle.track.specs.declared.answer.Reading.{Reading}
 use Rattle.track.specs.declared.answer.Reading.the-variants.{Points, Refused}
 

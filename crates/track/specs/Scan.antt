@@ -6,8 +6,8 @@ use lib.ListN.{length}
 use lib.Ieee.{Float}
 use Rattle.refusal.specs.Outcome.{Outcome, answers, refuses, bytesAfter}
 use Rattle.refusal.specs.Judged.{require}
-use Rattle.track.specs.Coordinate.{coordinateOf}
-use Rattle.track.specs.declared.coordinate.Coordinate.{Coordinate}
+use Rattle.coordinate.specs.Coordinate.{coordinateOf}
+use Rattle.coordinate.specs.declared.answer.Coordinate.{Coordinate}
 
 -- the whole coordinates before the stop, in order; and what stopped it, if anything: 6, 7 or 3 where a number begins, 8 at the first byte
 -- too many

@@ -2,10 +2,8 @@
 //
 // No public function has a `requires`: each answers or refuses for every list and every file. A refusal writes nothing.
 pub mod answer;
-mod coordinate;
-mod difference;
 pub mod limit;
-mod number;
+mod put;
 mod reader;
 mod writer;
 

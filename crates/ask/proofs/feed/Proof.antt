@@ -10,10 +10,10 @@ use Rattle.ask.proofs.fed.Reads as fed-reads
 use Rattle.ask.proofs.part.first.Reads as first-reads
 
 abbrev Inv-loop : tie.InvT-loop
-Inv-loop input n token₀ list₀ out₀ bytes left₀ i₀ token list out left i = Unit
+Inv-loop input n bytes₀ list₀ out₀ more left₀ i₀ bytes list out left i = Unit
 
 abbrev μ-loop : tie.MeasureT-loop
-μ-loop input n token₀ list₀ out₀ bytes left₀ i₀ token list out left i = length bytes - i
+μ-loop input n bytes₀ list₀ out₀ more left₀ i₀ bytes list out left i = length more - i
 
 first-requires : tie.Need-first-requires Inv-loop μ-loop
 first-requires c κs = search needs

@@ -11,10 +11,10 @@ use Rattle.ask.proofs.out.flush.Reads as flush-reads
 use Rattle.io.proofs.large_buffer.Reads as large-buffer-reads
 
 abbrev Inv-loop : tie.InvT-loop
-Inv-loop input₀ out₀ token₀ list₀ left₀ turns₀ input out token list left turns = Unit
+Inv-loop input₀ out₀ bytes₀ list₀ left₀ turns₀ input out bytes list left turns = Unit
 
 abbrev μ-loop : tie.MeasureT-loop
-μ-loop input₀ out₀ token₀ list₀ left₀ turns₀ input out token list left turns = turns
+μ-loop input₀ out₀ bytes₀ list₀ left₀ turns₀ input out bytes list left turns = turns
 
 large-buffer-requires : tie.Need-large-buffer-requires Inv-loop μ-loop
 large-buffer-requires c κs = search needs

@@ -15,8 +15,7 @@ use Rattle.refusal.specs.Search.{AllPass}
 use Rattle.refusal.proofs.Laws.Judged.{require-answered}
 use Rattle.refusal.proofs.Laws.Search.{passing-whole, passing-answered}
 use Rattle.point.specs.declared.Point.{Point}
-use Rattle.point.specs.Accepted.{acceptedOf}
-use Rattle.geometry.specs.Side.{Accepted}
+use Rattle.point.specs.Accepted.{acceptedOf, Accepted}
 use Rattle.geometry.specs.Zone.{fewest, most, placeIn, cornerAt, Zoned, zoneOf}
 use Rattle.ground.specs.Zone.{Lies}
 use Rattle.geometry.proofs.Laws.Zone.{judged}

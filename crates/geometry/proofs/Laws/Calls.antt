@@ -21,10 +21,11 @@ use Rattle.refusal.proofs.Laws.Outcome.{refuses-once, never, no-refusal}
 use Rattle.refusal.proofs.Laws.Judged.{require-refused}
 use Rattle.refusal.proofs.Laws.Search.{passing-answered, passing-first, passing-refused}
 use Rattle.point.specs.declared.Point.{Point}
-use Rattle.point.specs.Accepted.{reach, acceptedOf}
+use Rattle.point.specs.Accepted.{reach, acceptedOf, Accepted, OfDoubles}
+use Rattle.point.specs.Spot.{spotOf, determinant}
+use Rattle.point.proofs.Laws.Within.{Within, accepted-within}
 use Rattle.sum.specs.Total.{signNumber}
-use Rattle.geometry.specs.Spot.{spotOf, determinant}
-use Rattle.geometry.specs.Side.{Turned, turnOf, turnSaid, said, sixOf, sideOf, SideSays, mostSteps, Accepted, OfDoubles}
+use Rattle.geometry.specs.Side.{Turned, turnOf, turnSaid, said, sixOf, sideOf, SideSays, mostSteps}
 use Rattle.ground.specs.Edge.{edgesOf}
 use Rattle.ground.specs.Zone.{Tally, Lies, placeNumber, placeOf, outside, border, inside, offBorder}
 use Rattle.geometry.specs.Zone.{fewest, most, cornersOf, placeIn, Zoned, placeSaid, zoneSaid, zoneOf, ZoneSays}
@@ -36,7 +37,6 @@ use Rattle.geometry.specs.declared.answer.Place.{Place}
 use Rattle.geometry.specs.declared.answer.Place.the-variants.{Outside, Border, Inside}
 use Rattle.geometry.specs.declared.answer.Zone.{Zone}
 use Rattle.geometry.specs.declared.answer.Zone.the-variants.{At, Refused as ZoneRefused}
-use Rattle.geometry.proofs.Laws.Product.{Within, accepted-within}
 use Rattle.geometry.proofs.Laws.Side.{turn-sign, turn-steps, turn-steps-early, side-turn}
 use Rattle.geometry.proofs.Laws.Zone.{zone-odd, zone-small, zone-large, judged}
 use Rattle.geometry.proofs.Laws.Located.{located}

@@ -11,6 +11,7 @@ use lib.ListN.{length, drop, length-map}
 use lib.Ieee.{Float, lt, le}
 use borrow.Author.Tests.{ltb-true, ltb-false}
 use Rattle.point.specs.declared.Point.{Point}
+use Rattle.point.specs.Spot.{spotOf}
 use Rattle.whole.specs.Sign.{sgn}
 use Rattle.ground.specs.Compare.{atMost, below, isZero, isPositive, isNegative}
 use Rattle.ground.specs.Plane.{Spot}
@@ -18,7 +19,6 @@ use Rattle.ground.specs.Edge.{Edge, edge, edgesFrom, edgesOf, sideOfEdge, betwe
 use Rattle.sum.specs.Total.{signNumber}
 use Rattle.sum.specs.declared.answer.Sign.{Sign}
 use Rattle.ground.proofs.Laws.Compare.{below-not, sgn-is-zero, sgn-is-positive, sgn-is-negative}
-use Rattle.geometry.specs.Spot.{spotOf}
 use Rattle.geometry.specs.Parts.{liesBetween, InBox, Rises, Falls, crossingOf}
 use Rattle.geometry.specs.Zone.{pointsOf, cornersOf, cornerAt, nextOf}
 use Rattle.geometry.proofs.Laws.Corners.{corners-count, corner-later}

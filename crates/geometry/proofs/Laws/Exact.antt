@@ -15,6 +15,8 @@ use Rattle.refusal.specs.declared.Refusal.{Refusal}
 use Rattle.refusal.proofs.Laws.Outcome.{never}
 use Rattle.point.specs.declared.Point.{Point}
 use Rattle.point.specs.Accepted.{reach}
+use Rattle.point.specs.Spot.{determinant}
+use Rattle.point.proofs.Laws.Within.{Within}
 use Rattle.sum.specs.Limit.{limit}
 use Rattle.sum.specs.Total.{totalOf, signNumber}
 use Rattle.sum.specs.Ceiling.{ceilingOf}
@@ -26,10 +28,8 @@ use Rattle.sum.specs.declared.answer.Ran.{Ran}
 use Rattle.sum.specs.declared.answer.Run.{Run}
 use Rattle.sum.specs.declared.answer.Run.the-variants.{Done, Refused}
 use Rattle.sum.proofs.Laws.Calls.{real-accepted, run-answers, run-told, settled-told}
-use Rattle.geometry.specs.Spot.{determinant}
 use Rattle.geometry.specs.Product.{summandsOf}
 use Rattle.geometry.specs.Side.{Turned, turned, mostSteps, byRun, exactOf}
-use Rattle.geometry.proofs.Laws.Product.{Within}
 use Rattle.geometry.proofs.Laws.Summands.{summands-length, summands-real, summands-ceiling, summands-sign}
 
 -- stage 3

@@ -11,7 +11,7 @@ use lib.Ieee.{Float}
 use Rattle.ground.specs.Edge.{edgesOf, onEdge}
 use Rattle.ground.specs.Zone.{border, offBorder}
 use Rattle.point.specs.declared.Point.{Point}
-use Rattle.geometry.specs.Spot.{spotOf}
+use Rattle.point.specs.Spot.{spotOf}
 use Rattle.geometry.specs.Zone.{cornersOf, placeIn, edgeAt}
 use Rattle.geometry.specs.Reasons.{FirstOn, OffBorder, tallyIn}
 use Rattle.geometry.proofs.Laws.Zone.{offOf, walkFrom, walk-start, walk-here, walk-later, walk-end}

@@ -1,16 +1,14 @@
 -- The exact product of two doubles, and of two coordinates. In order: a quotient without remainder; the code's roundoff is the promised
--- one, and the promise; coordinates of the reach k, and their negations; the pair of two coordinates: how large, and what its total is.
+-- one, and the promise; negations of coordinates of the reach k; the pair of two coordinates: how large, and what its total is.
 -- Not here: the code's roundoff itself (double's `ExactProduct`); the list of all pairs (`Summands`). Assumes nothing.
 use mathlib.Core.Path.{_≡_, refl, sym, ap, _∙_, subst}
-use mathlib.Core.List.{[], _∷_}
 use Prim.Native.Nat.{ℕ, zero, suc, _+_, _-_, _*_, _/_, _^_, _≤_, _<_, _∣_}
 use native.Mathlib.Nat.{le-trans, le-of-eq, lt-irrefl, zero-lt-suc, mul-pos, mul-div-cancel}
 use native.Mathlib.Omega.{arith}
-use lib.Dec.{T}
 use lib.IntN.{ℤ, pos, negsuc, negℤ, _+ℤ_, _-ℤ_, _*ℤ_}
 use lib.Signed.{quotZ}
 use lib.Pow.{pow-pos}
-use lib.Ieee.{Float, binary64, fits, ofBits, add, mul, neg}
+use lib.Ieee.{Float, binary64, ofBits, add, mul, neg}
 use Rattle.whole.proofs.Laws.Parts.{up, dn, up-neg, dn-neg, ≡-parts}
 use Rattle.whole.proofs.Laws.Ring.{_:+_, _:-_, solve}
 use Rattle.double.specs.Worth.{signBit, mag, worth, doubleOf}
@@ -19,14 +17,11 @@ use Rattle.double.proofs.Laws.Sum.{neg-plus, neg-minus, neg-mag, neg-real}
 use Rattle.double.proofs.Laws.Zero.{plusZero}
 use Rattle.double.proofs.Laws.Dekker.{lastDifference}
 use Rattle.double.proofs.Laws.ExactProduct.{Factors, Exact, roundoff, exact-product}
-use Rattle.double.proofs.Laws.Sized.{Sized, Reach, reach-of, sized-of, sided-own, mul-sided}
+use Rattle.double.proofs.Laws.Sized.{Sized, Reach, sized-of, sided-own, mul-sided}
 use Rattle.double.proofs.Laws.Roundoff.{exact-worth, factors-reach, roundoff-sized}
-use Rattle.point.specs.declared.Point.{Point}
-use Rattle.point.specs.Accepted.{reach}
-use Rattle.point.proofs.Laws.Accepted.{accepted-real, accepted-range}
-use Rattle.geometry.specs.Product.{unit, roundoffOf}
+use Rattle.point.specs.Spot.{unit}
+use Rattle.geometry.specs.Product.{roundoffOf}
 use Rattle.geometry.specs.Parts.{ExactProduct}
-use Rattle.geometry.specs.Side.{Accepted}
 
 -- ---- a quotient without remainder
 quot-negative : (a n : ℕ) → 0 < a → quotZ (negℤ (pos a)) (pos n) ≡ negℤ (pos (a / n))
@@ -74,18 +69,7 @@ product-promised x y F =
       exact = roundoff-exact x y E;
     }
 
--- ---- coordinates of the reach k
--- both coordinates of a point are finite doubles, each a zero or of a magnitude from 2 ^ -k to 2 ^ k
-pub record Within (k : ℕ) (p : Point) : Type 0 where
-  pub x : Reach k (p .x)
-  pub y : Reach k (p .y)
-
-pub accepted-within : (p : Point) → T (fits binary64 (p .x)) → T (fits binary64 (p .y)) → Accepted p → Within reach p
-accepted-within p s t a = record {
-  x = reach-of reach (p .x) (accepted-real reach (p .x) s (a .x)) (accepted-range reach (p .x) (a .x));
-  y = reach-of reach (p .y) (accepted-real reach (p .y) t (a .y)) (accepted-range reach (p .y) (a .y));
-}
-
+-- ---- negations of coordinates of the reach k
 pub reach-neg : (k : ℕ) (x : Float) → Reach k x → Reach k (neg x)
 reach-neg k x r = record {
   real = neg-real binary64 x (r .real);

@@ -1,6 +1,6 @@
 -- The side of a point. In order: the sign is the determinant's, whatever stage tells it; the stage and the steps; which coordinate is
 -- refused, and that otherwise the turn is answered; no two results satisfy the promise of `side`.
--- Not here: why stages 1 and 2 are right (`Filter`), and stage 3 (`Exact`). Assumes nothing.
+-- Not here: why stages 1 and 2 are right (`Filter` of crate side_filter), and stage 3 (`Exact`). Assumes nothing.
 use mathlib.Core.Path.{_≡_, refl, sym, ap, ap₂, _∙_, subst}
 use mathlib.Core.Bool.{Bool, true, false, not}
 use Prim.Native.Nat.{ℕ, _≤_, _<_, zero-le}
@@ -11,21 +11,20 @@ use Rattle.refusal.specs.Outcome.{answers, refuses, notAccepted, Fixes}
 use Rattle.refusal.specs.Search.{passingFrom}
 use Rattle.refusal.proofs.Laws.Outcome.{refuses-once}
 use Rattle.point.specs.declared.Point.{Point}
-use Rattle.point.specs.Accepted.{reach, acceptedOf}
+use Rattle.point.specs.Accepted.{reach, acceptedOf, Accepted}
+use Rattle.point.specs.Spot.{determinant}
+use Rattle.point.proofs.Laws.Within.{Within}
 use Rattle.sum.specs.Total.{signNumber}
 use Rattle.sum.specs.declared.answer.Sign.{Sign}
-use Rattle.sum.specs.declared.answer.Sign.the-variants.{Minus, Zero, Plus}
 use Rattle.sum.proofs.Laws.Look.{sign-once}
-use Rattle.geometry.specs.Spot.{determinant}
-use Rattle.geometry.specs.Filter.{filterOf, FilterSays}
-use Rattle.geometry.specs.Side.{Turned, mostSteps, exactOf, byStage, turnOf, turnSaid, said, sideOf, SideSays, Accepted}
+use Rattle.side_filter.specs.declared.answer.Early.{Early}
+use Rattle.side_filter.specs.declared.answer.Early.the-variants.{Level, Plus, Minus, Open}
+use Rattle.side_filter.specs.Filter.{filterOf, Sure}
+use Rattle.side_filter.proofs.Laws.Filter.{filter-sure}
+use Rattle.geometry.specs.Side.{Turned, mostSteps, exactOf, byStage, turnOf, turnSaid, said, sideOf, SideSays}
 use Rattle.geometry.specs.declared.answer.Turn.{Turn}
 use Rattle.geometry.specs.declared.answer.Side.{Side}
 use Rattle.geometry.specs.declared.answer.Side.the-variants.{Of, Refused}
-use Rattle.geometry.specs.declared.filter.Early.{Early}
-use Rattle.geometry.specs.declared.filter.Early.the-variants.{Level, Clear, Open}
-use Rattle.geometry.proofs.Laws.Product.{Within}
-use Rattle.geometry.proofs.Laws.Filter.{filter-rule, filter-clear}
 use Rattle.geometry.proofs.Laws.Exact.{exact-sign, exact-steps, exact-stage}
 
 -- ---- the sign
@@ -33,13 +32,12 @@ module _ (p q r : Point) (P : Within reach p) (Q : Within reach q) (R : Within r
   -- the sign is that of the exact determinant, whatever stage answers
   pub turn-sign : turnOf p q r .sign ≡ sgn (determinant p q r)
   unfolding turnOf
-  turn-sign = go (filterOf p q r) (filter-rule p q r P Q R)
+  turn-sign = go (filterOf p q r) (filter-sure p q r P Q R refl)
     where
-      go : (f : Early) → FilterSays p q r f → byStage f (exactOf p q r) .sign ≡ sgn (determinant p q r)
+      go : (f : Early) → Sure p q r f → byStage f (exactOf p q r) .sign ≡ sgn (determinant p q r)
       go Level F = sym (sgn-zero (determinant p q r) .1 (F .level refl))
-      go (Clear Minus) F = sym (sgn-negative (determinant p q r) .1 (F .minus refl))
-      go (Clear Zero) F = filter-clear p q r (sym (F .answer))
-      go (Clear Plus) F = sym (sgn-positive (determinant p q r) .1 (F .plus refl))
+      go Plus F = sym (sgn-positive (determinant p q r) .1 (F .plus refl))
+      go Minus F = sym (sgn-negative (determinant p q r) .1 (F .minus refl))
       go Open F = exact-sign p q r P Q R
 
   -- so is the sign that is answered
@@ -53,7 +51,8 @@ module _ (p q r : Point) (P : Within reach p) (Q : Within reach q) (R : Within r
     where
       go : (f : Early) → byStage f (exactOf p q r) .steps ≤ mostSteps
       go Level = zero-le
-      go (Clear s) = zero-le
+      go Plus = zero-le
+      go Minus = zero-le
       go Open = exact-steps p q r P Q R
 
 -- ---- the stage and the steps
@@ -70,7 +69,8 @@ module _ (p q r : Point) where
     where
       go : (f : Early) → byStage f (exactOf p q r) .stage < 3 → byStage f (exactOf p q r) .steps ≡ 0
       go Level h = refl
-      go (Clear s) h = refl
+      go Plus h = refl
+      go Minus h = refl
       go Open h = absurd (lt-irrefl 3 (subst (λ (n : ℕ). n < 3) (exact-stage p q r) h))
 
 -- the code's test of a coordinate

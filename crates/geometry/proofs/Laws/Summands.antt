@@ -20,16 +20,17 @@ use Rattle.double.specs.Worth.{worth}
 use Rattle.double.proofs.Laws.Sized.{Sized}
 use Rattle.point.specs.declared.Point.{Point}
 use Rattle.point.specs.Accepted.{reach}
+use Rattle.point.specs.Spot.{determinant, unit}
+use Rattle.point.proofs.Laws.Within.{Within}
 use Rattle.sum.specs.Total.{totalOf}
 use Rattle.sum.specs.Limit.{divisor}
 use Rattle.sum.specs.Ceiling.{roundUp, ceilingOf}
 use Rattle.sum.proofs.Laws.Entries.{All, AllReal, all-map}
 use Rattle.sum.proofs.Laws.Ceiling.{ceiling-sized}
 use Rattle.sum.proofs.Laws.Calls.{total-none, total-more}
-use Rattle.geometry.specs.Spot.{determinant}
-use Rattle.geometry.specs.Product.{unit, roundoffOf, summandsOf}
+use Rattle.geometry.specs.Product.{roundoffOf, summandsOf}
 use Rattle.geometry.specs.Side.{mostSteps}
-use Rattle.geometry.proofs.Laws.Product.{Within, Paired, pairGrain, pairMost, reach-neg, worth-neg, reach-paired}
+use Rattle.geometry.proofs.Laws.Product.{Paired, pairGrain, pairMost, reach-neg, worth-neg, reach-paired}
 
 pub summands-length : (p q r : Point) → length (summandsOf p q r) ≡ 12
 unfolding summandsOf

@@ -12,11 +12,10 @@ use Rattle.double.proofs.Laws.Units.{Real}
 use Rattle.double.proofs.Laws.Compare.{lt-is, le-is}
 use Rattle.double.proofs.Laws.Worth.{worth-up, worth-dn}
 use Rattle.point.specs.declared.Point.{Point}
-use Rattle.point.specs.Accepted.{reach}
+use Rattle.point.specs.Accepted.{reach, Accepted, OfDoubles}
 use Rattle.point.proofs.Laws.Accepted.{accepted-real}
-use Rattle.geometry.specs.Side.{Accepted, OfDoubles}
+use Rattle.point.proofs.Laws.Within.{Within}
 use Rattle.geometry.specs.Parts.{liesBetween}
-use Rattle.geometry.proofs.Laws.Product.{Within}
 
 -- ---- points of finite doubles
 pub record RealPoint (p : Point) : Type 0 where

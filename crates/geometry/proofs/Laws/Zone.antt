@@ -18,13 +18,12 @@ use Rattle.refusal.proofs.Laws.Judged.{require-holds, require-fails}
 use Rattle.refusal.proofs.Laws.Outcome.{refuses-once}
 use Rattle.refusal.proofs.Laws.Search.{passing-answered, passing-other, failing-other}
 use Rattle.point.specs.declared.Point.{Point}
-use Rattle.point.specs.Accepted.{acceptedOf, acceptingFrom}
-use Rattle.geometry.specs.Side.{Accepted}
+use Rattle.point.specs.Accepted.{acceptedOf, acceptingFrom, Accepted}
+use Rattle.point.specs.Spot.{spotOf}
 use Rattle.ground.specs.Plane.{Spot}
 use Rattle.ground.specs.Edge.{Edge, edge, edgesOf, onEdge, isUp, isDown}
 use Rattle.ground.specs.Zone.{countOf, tallyOf, Lies, outside, border, inside, offBorder, walk, placeOf}
 use Rattle.ground.proofs.Laws.Edges.{crossing-once}
-use Rattle.geometry.specs.Spot.{spotOf}
 use Rattle.geometry.specs.Zone.{fewest, most, cornersOf, placeIn, cornerAt, nextOf, Zoned, placeSaid, zoneSaid, zoneOf, ZoneSays}
 use Rattle.geometry.specs.Parts.{crossingOf, withEdge, countsOf, cornersFault, faultSaid}
 use Rattle.geometry.specs.declared.edges.Crossing.the-variants.{None, Up, Down}

@@ -11,7 +11,7 @@ use Rattle.ground.specs.Zone.{placeNumber}
 use Rattle.ground.specs.Listing.{placeIn, Met, Joined, sharedEdges}
 use Rattle.ground.proofs.Laws.Joined.{chain-border, joint-border, joined-inside, joined-outside}
 use Rattle.point.specs.declared.Point.{Point}
-use Rattle.geometry.specs.Spot.{spotOf}
+use Rattle.point.specs.Spot.{spotOf}
 use Rattle.geometry.specs.Zone.{cornersOf, placeSaid, ZoneSays}
 use Rattle.geometry.specs.declared.answer.Place.{Place}
 use Rattle.geometry.specs.declared.answer.Place.the-variants.{Outside, Border, Inside}

@@ -13,7 +13,7 @@ use Rattle.ground.specs.Zone.{placeNumber}
 use Rattle.ground.specs.Listing.{Turned, Relisted}
 use Rattle.refusal.proofs.Laws.Outcome.{no-refusal}
 use Rattle.point.specs.declared.Point.{Point}
-use Rattle.geometry.specs.Spot.{spotOf}
+use Rattle.point.specs.Spot.{spotOf}
 use Rattle.geometry.specs.Zone.{cornersOf, placeIn, placeSaid, zoneSaid, ZoneSays}
 use Rattle.geometry.specs.declared.answer.Place.{Place}
 use Rattle.geometry.specs.declared.answer.Zone.{Zone}

@@ -17,7 +17,7 @@ use Rattle.ground.proofs.Laws.Tally.{border-met}
 use Rattle.ground.proofs.Laws.Listing.{relisted-place}
 use Rattle.ground.proofs.Laws.Triangles.{listed-apart}
 use Rattle.point.specs.declared.Point.{Point}
-use Rattle.geometry.specs.Spot.{spotOf}
+use Rattle.point.specs.Spot.{spotOf}
 use Rattle.geometry.specs.Zone.{cornersOf, placeSaid, ZoneSays}
 use Rattle.geometry.specs.declared.answer.Place.{Place}
 use Rattle.geometry.specs.declared.answer.Place.the-variants.{Inside}

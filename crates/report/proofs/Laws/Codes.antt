@@ -11,7 +11,7 @@ use lib.Ieee.{Float}
 use Rattle.refusal.specs.Outcome.{answers, refuses}
 use Rattle.refusal.specs.declared.Refusal.{Refusal}
 use Rattle.point.specs.declared.Point.{Point}
-use Rattle.geometry.specs.Side.{Accepted}
+use Rattle.point.specs.Accepted.{Accepted}
 use Rattle.geometry.specs.Zone.{pointsOf, placeIn, cornerAt}
 use Rattle.ground.specs.Zone.{Lies, outside, border, inside, placeNumber}
 use Rattle.geometry.specs.Zone.{placeSaid, zoneSaid, zoneOf}

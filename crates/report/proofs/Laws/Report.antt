@@ -15,7 +15,7 @@ use Rattle.refusal.specs.declared.Refusal.{Refusal}
 use Rattle.geometry.specs.Zone.{pointsOf, placeIn, cornerAt, zoneOf}
 use Rattle.ground.specs.Zone.{Lies, placeNumber}
 use Rattle.geometry.proofs.Laws.Answered.{zoned-answers}
-use Rattle.track.specs.Number.{Bytes}
+use Rattle.number.specs.Number.{Bytes}
 use Rattle.track.specs.File.{limit, mostBytes}
 use Rattle.refusal.proofs.Laws.Judged.{also-answers, also-refuses, require-holds, require-fails, also-answered, require-answered}
 use Rattle.track.proofs.Laws.Refusals.{Only, only-answers, only-also, only-require-held, isReaders, read-only}

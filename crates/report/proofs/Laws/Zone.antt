@@ -14,12 +14,12 @@ use Rattle.refusal.specs.Outcome.{Outcome, answers, refuses, Fixes, tooMany, to
 use Rattle.refusal.specs.declared.Refusal.{Refusal}
 use Rattle.refusal.proofs.Laws.Outcome.{refuses-once}
 use Rattle.point.specs.declared.Point.{Point}
-use Rattle.geometry.specs.Side.{Accepted}
+use Rattle.point.specs.Accepted.{Accepted}
 use Rattle.geometry.specs.Zone.{fewest, most, Zoned, zoneOf}
 use Rattle.geometry.proofs.Laws.Zone.{zone-small, zone-large}
 use Rattle.geometry.proofs.Laws.Answered.{zoned-answers}
 use Rattle.refusal.specs.Judged.{require, also}
-use Rattle.track.specs.Number.{Bytes}
+use Rattle.number.specs.Number.{Bytes}
 use Rattle.track.specs.File.{limit, mostBytes}
 use Rattle.track.specs.Read.{readOf, pointsSaid, said, ReadSays}
 use Rattle.track.specs.declared.answer.Reading.{Reading}

@@ -1,7 +1,5 @@
 -- A text that is put together in a buffer. In order: the bytes of a text, put one by one; one text after another; the lines of releases,
 -- one by one; what a report that was told is. Assumes nothing.
--- A text that is put together in a buffer. In order: the bytes of a text, put one by one; one text after another; the lines of
--- releases, one by one; what a report that was told is. Assumes nothing.
 use Prim.Native.Nat.{ℕ, zero, suc, _+_, _*_, _≤_, _<_}
 use mathlib.Core.Path.{_≡_, refl, sym, ap, ap₂, _∙_, subst}
 use mathlib.Core.List.{List, _++_, append-assoc, append-nil}
@@ -14,7 +12,7 @@ use Rattle.report.specs.Report.{Told, releases, refusedZone, refusedReleases, r
 use Rattle.report.specs.declared.answer.Report.{Report}
 use Rattle.report.specs.declared.answer.Report.the-variants.{Releases, RefusedZone, RefusedReleases}
 use Rattle.serve.specs.Text.{ascii, placeText, lineText, linesFrom, headerText, refusalText, textOf}
-use Rattle.serve.specs.Parts.{Puts}
+use Rattle.serve.specs.Parts.{textRoom, Puts}
 
 -- ---- the bytes of a text
 -- i of them are put
@@ -26,8 +24,9 @@ module _ (before : List ℕ) (len : ℕ) (text : List ℕ) where
   pub putting-start : Putting before len text before 0
   putting-start = record { few = omega arith; all = paste-zero before len text }
 
-  module _ (room : len + length text ≤ length before) (out : List ℕ) (i : ℕ) (p : Putting before len text out i) where
-    pub putting-kept : length out ≡ length before
+  module _ (room : (len + length text ≤ textRoom) × (textRoom ≤ length before))
+      (out : List ℕ) (i : ℕ) (p : Putting before len text out i) where
+    putting-kept : length out ≡ length before
     putting-kept = let h = p .few in ap length (p .all) ∙ length-paste before len text i (omega arith) h
 
     pub putting-turn : i < length text → Putting before len text (set out (len + i) (getD text i 0)) (i + 1)

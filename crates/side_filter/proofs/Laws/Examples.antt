@@ -2,11 +2,12 @@
 -- Not here: the laws. Assumes nothing.
 use mathlib.Core.Path.{_≡_, refl}
 use mathlib.Core.Bool.{true, false}
-use lib.IntN.{pos, negsuc}
-use lib.Ieee.{Float, fin, binary64, ofBits, add, sub, neg, mul, lt}
+use lib.IntN.{pos}
+use lib.Ieee.{Float, fin, ofBits, add, sub, neg, mul, lt, eq}
 use Rattle.double.proofs.Laws.Zero.{plusZero}
-use Rattle.side_filter.proofs.Laws.Threshold.{thresholdBy}
-use Rattle.side_filter.proofs.Laws.Orientation.{sideDifference, farther}
+use Rattle.point.specs.declared.Point.{Point}
+use Rattle.side_filter.specs.Filter.{filterConstant, xSpanOf, thresholdOf, differenceOf, filterOf}
+use Rattle.side_filter.specs.declared.answer.Early.the-variants.{Plus, Minus, Open}
 
 one : Float
 one = fin false 1 (pos 0)
@@ -14,29 +15,25 @@ one = fin false 1 (pos 0)
 two : Float
 two = fin false 1 (pos 1)
 
--- 01's constant, the double nearest to 8.8872057372592758e-16, by its pattern
-abbrev constant : Float
-constant = ofBits binary64 0x3CD0_0280_1000_0002
+abbrev at : Float → Float → Point
+at x y = record { x = x; y = y }
 
-abbrev threshold : Float → Float → Float
-threshold = thresholdBy constant
-
--- (0, 0), (1, 0), (0, 1): D is 1, E the constant, and D is above E
-filter-triangle : (farther plusZero one plusZero ≡ one) × (threshold one one ≡ fin false 2253174337437697 (negsuc 100))
-    × (sideDifference plusZero plusZero one plusZero plusZero one ≡ one)
-    × (lt (threshold one one) (sideDifference plusZero plusZero one plusZero plusZero one) ≡ true)
-unfolding ofBits one add sub mul neg lt
+-- (0, 0), (1, 0), (0, 1): X is 1, E the constant, D is 1 and above E
+filter-triangle : (xSpanOf (at plusZero plusZero) (at one plusZero) (at plusZero one) ≡ one)
+    × (thresholdOf one one ≡ filterConstant)
+    × (differenceOf (at plusZero plusZero) (at one plusZero) (at plusZero one) ≡ one)
+    × (filterOf (at plusZero plusZero) (at one plusZero) (at plusZero one) ≡ Plus)
+unfolding filterOf ofBits one add sub mul neg lt eq
 filter-triangle = (refl, refl, refl, refl)
 
 -- the same turned round, (0, 0), (0, 1), (1, 0): D is -1, below -E
-filter-turned : (sideDifference plusZero plusZero plusZero one one plusZero ≡ fin true 1 (pos 0))
-    × (lt (sideDifference plusZero plusZero plusZero one one plusZero) (neg (threshold one one)) ≡ true)
-unfolding ofBits one add sub mul neg lt
+filter-turned : (differenceOf (at plusZero plusZero) (at plusZero one) (at one plusZero) ≡ fin true 1 (pos 0))
+    × (filterOf (at plusZero plusZero) (at plusZero one) (at one plusZero) ≡ Minus)
+unfolding filterOf ofBits one add sub mul neg lt eq
 filter-turned = (refl, refl)
 
 -- (0, 0), (1, 1), (2, 2): D is +0, and neither above E nor below -E
-filter-line : (sideDifference plusZero plusZero one one two two ≡ plusZero)
-    × (lt (threshold two two) (sideDifference plusZero plusZero one one two two) ≡ false)
-    × (lt (sideDifference plusZero plusZero one one two two) (neg (threshold two two)) ≡ false)
-unfolding ofBits one two add sub mul neg lt
-filter-line = (refl, refl, refl)
+filter-line : (differenceOf (at plusZero plusZero) (at one one) (at two two) ≡ plusZero)
+    × (filterOf (at plusZero plusZero) (at one one) (at two two) ≡ Open)
+unfolding filterOf ofBits one two add sub mul neg lt eq
+filter-line = (refl, refl)

@@ -1,200 +1,172 @@
--- The filter of a difference of two products, in numbers. A, B, C, D are exact differences in units, a, b, c, d those rounded, X at least
--- a and c, Y at least b and d; L units make one. The rounded products of a * d and b * c are each within 7 / 2 ^ 54 of X * Y of the exact
--- ones, and E, X * Y times a constant of at least 8 / 2 ^ 53, each product rounded, is at least 7.9 / 2 ^ 53 of X * Y. So where the
--- rounded difference of the rounded products is above E, the exact difference is above 0. In order: a product of two rounded numbers; the
--- difference of two such; what E is worth; numbers with a sign; the filter. Not here: the floats (`Threshold`). Assumes nothing.
-use mathlib.Core.Path.{_≡_, refl, sym, ap, ap₂, _∙_, subst}
-use mathlib.Core.Bool.{Bool, true, false, cond}
-use Prim.Native.Nat.{ℕ, _+_, _-_, _*_, _^_, _≤_, _<_}
-use native.Mathlib.Nat.{le-trans, le-of-eq, le-of-lt, add-mul, mul-add, add-comm, mul-comm, mul-assoc, mul-right-comm, mul-sub, mul-pos}
-use native.Mathlib.Nat.{mul-le-mul, mul-le-mul-left, mul-le-mul-right, le-of-mul-le-mul-right, zero-mul, zero-lt-suc}
+-- Stages 1 and 2 of a side, for points whose coordinates lie within the reach. In order: what each answer says of the tests; the constant
+-- is large enough; the facts of the filter, its error bound among them; the rule's answer is never wrong; no two results satisfy the
+-- promise; the code's answer, by the tests before it; a rounded difference of coordinates against 001's two bounds. Not here: why the bound
+-- holds and a D above E is decided (`Orientation`). Assumes nothing.
+use mathlib.Core.Path.{_≡_, refl, sym, ap, ap₂, _∙_}
+use mathlib.Core.Bool.{Bool, true, false, _||_, cond}
+use mathlib.Core.Logic.{_⊎_, inl, inr}
+use Prim.Native.Nat.{ℕ, _*_, _^_, _≤_, _<_}
+use native.Mathlib.Nat.{lt-of-lt-of-le, lt-of-le-of-lt, mul-le-mul-right, dvd-of-mod-eq-zero}
 use native.Mathlib.Omega.{arith}
-use Rattle.double.proofs.Laws.Digits.{gap}
-use Rattle.double.proofs.Laws.Rounding.{rn, rn-error, rn-error-of}
+use lib.Dec.{T, lit≤, lit<}
+use lib.IntN.{pos}
+use lib.Ieee.{Float, binary64, ofBits, sub, neg, lt, eq, fits}
+use Rattle.whole.specs.Order.{_<ᶻ_}
+use Rattle.refusal.specs.Outcome.{Fixes}
+use Rattle.double.specs.Worth.{mag, plus0}
+use Rattle.double.proofs.Laws.Sized.{Reach, sub-range}
+use Rattle.side_filter.proofs.Laws.Greater.{greater-of, zero-test}
+use Rattle.side_filter.proofs.Laws.Threshold.{Constant}
+use Rattle.side_filter.proofs.Laws.Orientation.{Filtered, filtered-span}
+use Rattle.point.specs.declared.Point.{Point}
+use Rattle.point.specs.Accepted.{reach, magnitudeOf}
+use Rattle.point.specs.Spot.{determinant}
+use Rattle.point.proofs.Laws.Within.{Within}
+use Rattle.side_filter.specs.Filter.{filterConstant, greater, spanOf, xSpanOf, ySpanOf, thresholdOf, differenceOf}
+use Rattle.side_filter.specs.Filter.{clearBy, filterBy, filterOf, Sure, FilteredSays}
+use Rattle.side_filter.specs.declared.answer.Early.{Early}
+use Rattle.side_filter.specs.declared.answer.Early.the-variants.{Level, Plus, Minus, Open}
 
-sub-mul : (x y l : ℕ) → (x - y) * l ≡ x * l - y * l
-sub-mul x y l = mul-comm (x - y) l ∙ mul-sub l x y ∙ ap₂ (λ (x y : ℕ). x - y) (mul-comm l x) (mul-comm l y)
+-- ---- the answer by four tests: X is zero, Y is zero, D is above E, D is below -E
+abbrev tested : Bool → Bool → Bool → Bool → Early
+tested x y above below = cond (x || y) Level (cond above Plus (cond below Minus Open))
 
--- ---- a product of two rounded numbers, d and e the errors of a and b
-product-above : (A B a b d e : ℕ) → A ≤ a + d → B ≤ b + e → A * B ≤ a * b + (a * e + d * b + d * e)
-product-above A B a b d e h k =
-    le-trans (mul-le-mul h k)
-    (le-of-eq (add-mul a d (b + e) ∙ ap₂ (λ (v w : ℕ). v + w) (mul-add a b e) (mul-add d b e) ∙ re (a * b) (a * e) (d * b) (d * e)))
-  where
-    re : (w x y z : ℕ) → w + x + (y + z) ≡ w + (x + y + z)
-    re w x y z = omega arith
+never : {A : Type 0} → _≡_ {A = ℕ} 0 1 → A
+never e = let w : ⊥ = omega arith in absurd w
 
-product-below : (A B a b d e : ℕ) → a ≤ A + d → b ≤ B + e → A ≤ a + d → a * b ≤ A * B + (a * e + d * b + d * e)
-product-below A B a b d e h k l =
-    let one : a * b ≤ A * b + d * b = le-trans (mul-le-mul-right b h) (le-of-eq (add-mul A d b)) in
-    let two : A * b ≤ A * B + A * e = le-trans (mul-le-mul-left A k) (le-of-eq (mul-add A B e)) in
-    let three : A * e ≤ a * e + d * e = le-trans (mul-le-mul-right e l) (le-of-eq (add-mul a d e)) in
-    omega arith
+tested-level : (x y above below : Bool) → tested x y above below ≡ Level → T x ⊎ T y
+tested-level true y a b e = inl tt
+tested-level false true a b e = inr tt
+tested-level false false true b e = never (cc)
+tested-level false false false true e = never (cc)
+tested-level false false false false e = never (cc)
 
--- the three error terms are at most 5 / 2 ^ 54 of a * b
-error-terms : (a b d e : ℕ) → d * 2 ^ 53 ≤ a → e * 2 ^ 53 ≤ b → (a * e + d * b + d * e) * 2 ^ 54 ≤ 5 * (a * b)
-error-terms a b d e h k =
-    let x : a * e * 2 ^ 53 ≤ a * b = le-trans (le-of-eq (mul-assoc a e (2 ^ 53))) (mul-le-mul-left a k) in
-    let y : d * b * 2 ^ 53 ≤ a * b = le-trans (le-of-eq (mul-right-comm d b (2 ^ 53))) (mul-le-mul-right b h) in
-    let z : d * e * 2 ^ 53 ≤ d * b = le-trans (le-of-eq (mul-assoc d e (2 ^ 53))) (mul-le-mul-left d k) in
-    omega arith
+tested-plus : (x y above below : Bool) → tested x y above below ≡ Plus → T above
+tested-plus true y a b e = never (cc)
+tested-plus false true a b e = never (cc)
+tested-plus false false true b e = tt
+tested-plus false false false true e = never (cc)
+tested-plus false false false false e = never (cc)
 
--- P is a * b rounded, in units
-product-error : (A B a b Q P L S : ℕ) → gap a A * 2 ^ 53 ≤ a → gap b B * 2 ^ 53 ≤ b → a * b ≡ Q * L → gap P Q * 2 ^ 53 ≤ Q → a * b ≤ S
-    → gap (A * B) (P * L) * 2 ^ 54 ≤ 7 * S
-product-error A B a b Q P L S h k q r s =
-    let d = gap a A in
-    let e = gap b B in
-    let u = product-above A B a b d e (omega arith) (omega arith) in
-    let v = product-below A B a b d e (omega arith) (omega arith) (omega arith) in
-    let t = error-terms a b d e h k in
-    let g : gap (P * L) (Q * L) ≡ gap P Q * L =
-    sym (add-mul (P - Q) (Q - P) L ∙ ap₂ (λ (v w : ℕ). v + w) (sub-mul P Q L) (sub-mul Q P L)) in
-    let w : gap (P * L) (Q * L) * 2 ^ 53 ≤ Q * L =
-    le-trans (le-of-eq (ap (λ (z : ℕ). z * 2 ^ 53) g ∙ mul-right-comm (gap P Q) L (2 ^ 53))) (mul-le-mul-right L r) in
-    last (A * B) (a * b) (Q * L) (P * L) (a * e + d * b + d * e) S u v t q w s
-  where
-    close : (T c R W E F : ℕ) → T ≤ c + E → c ≤ T + E → c ≡ R → W ≤ R + F → R ≤ W + F → gap T W ≤ E + F
-    close T c R W E F a b q m n = omega arith
+tested-minus : (x y above below : Bool) → tested x y above below ≡ Minus → T below
+tested-minus true y a b e = never (cc)
+tested-minus false true a b e = never (cc)
+tested-minus false false true b e = never (cc)
+tested-minus false false false true e = tt
+tested-minus false false false false e = never (cc)
 
-    sum : (c R E F S : ℕ) → E * 2 ^ 54 ≤ 5 * c → c ≡ R → F * 2 ^ 53 ≤ R → c ≤ S → (E + F) * 2 ^ 54 ≤ 7 * S
-    sum c R E F S t q w s = omega arith
+-- ---- the constant: at least 8 / 2 ^ 53, so that E is above the error bound
+constant-least : 8 * 2 ^ 1074 ≤ mag binary64 filterConstant * 2 ^ 53
+unfolding ofBits
+constant-least = lit≤ tt
 
-    far : (x y : ℕ) → (x ≤ y + gap x y) × (y ≤ x + gap x y)
-    far x y = omega arith
+constant : Constant filterConstant
+unfolding ofBits
+constant = record {
+  least = constant-least;
+  sided = record {
+    split = record { real = record { fin = tt; fit = unfold fits in tt }; same = refl; other = refl };
+    grain = dvd-of-mod-eq-zero (2 ^ 973) refl;
+    most = lit≤ tt;
+  };
+}
 
-    last : (T c R W E S : ℕ) → T ≤ c + E → c ≤ T + E → E * 2 ^ 54 ≤ 5 * c → c ≡ R → gap W R * 2 ^ 53 ≤ R → c ≤ S → gap T W * 2 ^ 54 ≤ 7 * S
-    last T c R W E S a b t q w s =
-        let f = far W R in
-        le-trans (mul-le-mul-right (2 ^ 54) (close T c R W E (gap W R) a b q (f .0) (f .1))) (sum c R E (gap W R) S t q w s)
+-- ---- the filter of three points
+module _ (p q r : Point) (P : Within reach p) (Q : Within reach q) (R : Within reach r) where
+  abbrev X : Float
+  X = xSpanOf p q r
 
--- ---- the difference of two such: T1 - T2 exact, V1 - V2 rounded, each by its plus and minus part
-difference-positive : (S d T1p T1n T2p T2n V1p V1n V2p V2n : ℕ)
-    → (gap T1p V1p + gap T1n V1n) * 2 ^ 54 ≤ 7 * S → (gap T2p V2p + gap T2n V2n) * 2 ^ 54 ≤ 7 * S
-    → V1p + V2n ≡ d + (V1n + V2p) → 0 < d → 15 * S ≤ d * 2 ^ 54 → T1n + T2p < T1p + T2n
-difference-positive S d T1p T1n T2p T2n V1p V1n V2p V2n a b e p h =
-    let g : ℕ = gap T1p V1p + gap T1n V1n in
-    let k : ℕ = gap T2n V2n + gap T2p V2p in
-    last g k (shift T1p V1p T1n V1n) (shift T2n V2n T2p V2p)
-    (less g k d S a (le-trans (le-of-eq (ap (λ (z : ℕ). z * 2 ^ 54) (add-comm (gap T2n V2n) (gap T2p V2p)))) b) h p)
-  where
-    shift : (Tp Vp Tn Vn : ℕ) → Vp + Tn ≤ Tp + Vn + (gap Tp Vp + gap Tn Vn)
-    shift Tp Vp Tn Vn = omega arith
+  abbrev Y : Float
+  Y = ySpanOf p q r
 
-    less : (g k d S : ℕ) → g * 2 ^ 54 ≤ 7 * S → k * 2 ^ 54 ≤ 7 * S → 15 * S ≤ d * 2 ^ 54 → 0 < d → g + k < d
-    less g k d S a b h p = omega arith
+  abbrev D : Float
+  D = differenceOf p q r
 
-    last : (g k : ℕ) → V1p + T1n ≤ T1p + V1n + g → V2n + T2p ≤ T2n + V2p + k → g + k < d → T1n + T2p < T1p + T2n
-    last g k x y z = omega arith
+  abbrev E : Float
+  E = thresholdOf X Y
 
--- ---- what E is worth
--- a rounded number is within one part in 2 ^ 53 of its number
-rounded-least : (E Q : ℕ) → gap E Q * 2 ^ 53 ≤ Q → Q * (2 ^ 53 - 1) ≤ E * 2 ^ 53
-rounded-least E Q h = omega arith
+  -- every value on the way is finite, the error bound, and what each test says of the determinant
+  filter-facts : Filtered (p .x) (p .y) (q .x) (q .y) (r .x) (r .y) X Y E
+  filter-facts =
+      filtered-span reach (p .x) (p .y) (q .x) (q .y) (r .x) (r .y) filterConstant constant (lit≤ tt)
+      (P .x) (P .y) (Q .x) (Q .y) (R .x) (R .y)
 
-rounded-most : (E Q : ℕ) → gap E Q * 2 ^ 53 ≤ Q → E * 2 ^ 53 ≤ Q * (2 ^ 53 + 1)
-rounded-most E Q h = omega arith
+  positive : T (lt E D) → pos 0 <ᶻ determinant p q r
+  positive t = filter-facts .positive t
 
-pub threshold-least : (K X Y L Qc E1 QE E : ℕ) → 0 < L → 8 * L ≤ K * 2 ^ 53 → K * X ≡ Qc * L → gap E1 Qc * 2 ^ 53 ≤ Qc
-    → E1 * Y ≡ QE * L → gap E QE * 2 ^ 53 ≤ QE → 79 * (X * Y) ≤ E * L * (10 * 2 ^ 53)
-threshold-least K X Y L Qc E1 QE E l c q g r k =
-    let a : 8 * X ≤ Qc * 2 ^ 53 =
-    le-of-mul-le-mul-right (le-trans (le-of-eq (mul-right-comm 8 X L)) (le-trans (mul-le-mul-right X c)
-    (le-of-eq (mul-right-comm K (2 ^ 53) X ∙ ap (λ (z : ℕ). z * 2 ^ 53) q ∙ mul-right-comm Qc L (2 ^ 53))))) l in
-    let b : 799 * X ≤ E1 * (100 * 2 ^ 53) = first Qc E1 X a (rounded-least E1 Qc g) in
-    let d : 799 * (X * Y) ≤ QE * L * (100 * 2 ^ 53) =
-    le-trans (le-of-eq (sym (mul-assoc 799 X Y))) (le-trans (mul-le-mul-right Y b)
-    (le-of-eq (mul-right-comm E1 (100 * 2 ^ 53) Y ∙ ap (λ (z : ℕ). z * (100 * 2 ^ 53)) r))) in
-    let e : QE * L * (2 ^ 53 - 1) ≤ E * L * 2 ^ 53 =
-    le-trans (le-of-eq (mul-right-comm QE L (2 ^ 53 - 1))) (le-trans (mul-le-mul-right L (rounded-least E QE k))
-    (le-of-eq (mul-right-comm E (2 ^ 53) L))) in
-    second (QE * L) (E * L) (X * Y) d e
-  where
-    first : (n m x : ℕ) → 8 * x ≤ n * 2 ^ 53 → n * (2 ^ 53 - 1) ≤ m * 2 ^ 53 → 799 * x ≤ m * (100 * 2 ^ 53)
-    first n m x h k = omega arith
+  negative : T (lt D (neg E)) → determinant p q r <ᶻ pos 0
+  negative t = filter-facts .negative t
 
-    second : (n m x : ℕ) → 799 * x ≤ n * (100 * 2 ^ 53) → n * (2 ^ 53 - 1) ≤ m * 2 ^ 53 → 79 * x ≤ m * (10 * 2 ^ 53)
-    second n m x h k = omega arith
+  level : T (eq X plus0) ⊎ T (eq Y plus0) → determinant p q r ≡ pos 0
+  unfolding ofBits
+  level t =
+      let F = filter-facts in
+      F .level (elim t [
+        | inl z ↦ inl (zero-test X (greater-of (sub binary64 (q .x) (p .x)) (sub binary64 (r .x) (p .x)) (F .qx-px) (F .rx-px) .real) .0 z)
+        | inr z ↦ inr (zero-test Y (greater-of (sub binary64 (q .y) (p .y)) (sub binary64 (r .y) (p .y)) (F .qy-py) (F .ry-py) .real) .0 z)
+      ])
 
--- a difference d that rounds to more than E
-difference-least : (d D E L S : ℕ) → gap D d * 2 ^ 53 ≤ d → E < D → 0 < L → 79 * S ≤ E * L * (10 * 2 ^ 53)
-    → (15 * S ≤ d * L * 2 ^ 54) × (0 < d * L)
-difference-least d D E L S g h l b =
-    let m : D * L * 2 ^ 53 ≤ d * L * (2 ^ 53 + 1) =
-    le-trans (le-of-eq (mul-right-comm D L (2 ^ 53))) (le-trans (mul-le-mul-right L (rounded-most D d g))
-    (le-of-eq (mul-right-comm d (2 ^ 53 + 1) L))) in
-    let n : E * L ≤ D * L = mul-le-mul-right L (le-of-lt h) in
-    (last (E * L) (D * L) (d * L) S m n b, mul-pos (some d D E h (rounded-most D d g)) l)
-  where
-    last : (e D d S : ℕ) → D * 2 ^ 53 ≤ d * (2 ^ 53 + 1) → e ≤ D → 79 * S ≤ e * (10 * 2 ^ 53) → 15 * S ≤ d * 2 ^ 54
-    last e D d S m n b = omega arith
+  -- the answer that the rule gives is never wrong
+  pub filter-sure : {f : Early} → f ≡ filterOf p q r → Sure p q r f
+  unfolding filterOf
+  filter-sure {f} e =
+      let own : f ≡ tested (eq X plus0) (eq Y plus0) (lt E D) (lt D (neg E)) = e in
+      record {
+        near = (filter-facts .near-above, filter-facts .near-below);
+        enough = filter-facts .e-enough;
+        level = λ g. level (tested-level (eq X plus0) (eq Y plus0) (lt E D) (lt D (neg E)) (sym own ∙ g));
+        plus = λ g. positive (tested-plus (eq X plus0) (eq Y plus0) (lt E D) (lt D (neg E)) (sym own ∙ g));
+        minus = λ g. negative (tested-minus (eq X plus0) (eq Y plus0) (lt E D) (lt D (neg E)) (sym own ∙ g));
+      }
 
-    some : (d D E : ℕ) → E < D → D * 2 ^ 53 ≤ d * (2 ^ 53 + 1) → 0 < d
-    some d D E h m = omega arith
+-- no two results satisfy the promise
+pub filtered-fixed : (p q r : Point) → Fixes (λ (f : Early). FilteredSays p q r f)
+filtered-fixed p q r a b e f = e .answer ∙ sym (f .answer)
 
--- ---- a number with a sign, by its plus and its minus part
-abbrev pub plusOf : Bool → ℕ → ℕ
-plusOf w n = cond w 0 n
+-- ---- the code's answer is the rule's
+pub filter-answer : (p q r : Point) {x y : Float} {f : Early} → x ≡ xSpanOf p q r → y ≡ ySpanOf p q r
+    → f ≡ filterBy (differenceOf p q r) x y → f ≡ filterOf p q r
+unfolding filterOf
+filter-answer p q r ex ey e = e ∙ ap₂ (λ (a b : Float). filterBy (differenceOf p q r) a b) ex ey
 
-abbrev pub minusOf : Bool → ℕ → ℕ
-minusOf w n = cond w n 0
+-- the code's way to X and Y
+pub span-is : (u v w : Float) {a b x : Float} → a ≡ magnitudeOf (sub binary64 u w) → b ≡ magnitudeOf (sub binary64 v w) → x ≡ greater a b
+    → x ≡ spanOf u v w
+span-is u v w e f g = g ∙ ap₂ greater e f
 
-signed-gap : (w : Bool) (T W k : ℕ) → gap T W * 2 ^ 54 ≤ k
-    → (gap (plusOf w T) (plusOf w W) + gap (minusOf w T) (minusOf w W)) * 2 ^ 54 ≤ k
-signed-gap true T W k h = omega arith
-signed-gap false T W k h = omega arith
+-- ---- each answer by the tests before it
+pub by-x : (D X Y : Float) → eq X plus0 ≡ true → Level ≡ filterBy D X Y
+by-x D X Y e = ap (λ (b : Bool). cond b Level (clearBy D (thresholdOf X Y))) (sym (ap (λ (b : Bool). b || eq Y plus0) e))
 
-signed-mul : (w : Bool) (n l : ℕ) → (plusOf w n * l ≡ plusOf w (n * l)) × (minusOf w n * l ≡ minusOf w (n * l))
-signed-mul true n l = (zero-mul l, refl)
-signed-mul false n l = (refl, zero-mul l)
+module _ (D X Y : Float) (x : eq X plus0 ≡ false) where
+  pub by-y : eq Y plus0 ≡ true → Level ≡ filterBy D X Y
+  by-y y = ap (λ (b : Bool). cond b Level (clearBy D (thresholdOf X Y))) (sym (ap₂ _||_ x y))
 
--- ---- the filter: v and w are the signs of a * d and b * c
-some : 0 < 53
-some = zero-lt-suc 52
+  module _ (y : eq Y plus0 ≡ false) where
+    not-level : clearBy D (thresholdOf X Y) ≡ filterBy D X Y
+    not-level = ap (λ (b : Bool). cond b Level (clearBy D (thresholdOf X Y))) (sym (ap₂ _||_ x y))
 
--- the error of a rounded product of rounded differences, in squares of units
-pub rounded-error : (L A D X Y Q : ℕ) → rn 53 A * rn 53 D ≡ Q * L → rn 53 A ≤ X → rn 53 D ≤ Y → gap (A * D) (rn 53 Q * L) * 2 ^ 54 ≤ 7 * (X * Y)
-rounded-error L A D X Y Q q xa yd =
-    product-error A D (rn 53 A) (rn 53 D) Q (rn 53 Q) L (X * Y) (rn-error-of 53 A some) (rn-error-of 53 D some) q (rn-error 53 Q some) (mul-le-mul xa yd)
+    pub by-plus : lt (thresholdOf X Y) D ≡ true → Plus ≡ filterBy D X Y
+    by-plus e = ap (λ (b : Bool). cond b Plus (cond (lt D (neg (thresholdOf X Y))) Minus Open)) (sym e) ∙ not-level
 
-module _ (L : ℕ) (l : 0 < L) (v w : Bool) (A B C D X Y Q1 Q2 K Qc E1 QE E d : ℕ)
-    (q1 : rn 53 A * rn 53 D ≡ Q1 * L) (q2 : rn 53 B * rn 53 C ≡ Q2 * L)
-    (xa : rn 53 A ≤ X) (xc : rn 53 C ≤ X) (yb : rn 53 B ≤ Y) (yd : rn 53 D ≤ Y)
-    (k : 8 * L ≤ K * 2 ^ 53) (qc : K * X ≡ Qc * L) (e1 : E1 ≡ rn 53 Qc) (qe : E1 * Y ≡ QE * L) (e2 : E ≡ rn 53 QE)
-    (ed : d ≡ plusOf v (rn 53 Q1) + minusOf w (rn 53 Q2) - (minusOf v (rn 53 Q1) + plusOf w (rn 53 Q2))) (gt : E < rn 53 d) where
-  first-error : gap (A * D) (rn 53 Q1 * L) * 2 ^ 54 ≤ 7 * (X * Y)
-  first-error = rounded-error L A D X Y Q1 q1 xa yd
+    module _ (e : lt (thresholdOf X Y) D ≡ false) where
+      not-plus : cond (lt D (neg (thresholdOf X Y))) Minus Open ≡ filterBy D X Y
+      not-plus = ap (λ (b : Bool). cond b Plus (cond (lt D (neg (thresholdOf X Y))) Minus Open)) (sym e) ∙ not-level
 
-  second-error : gap (B * C) (rn 53 Q2 * L) * 2 ^ 54 ≤ 7 * (X * Y)
-  second-error = le-trans (rounded-error L B C Y X Q2 q2 yb xc) (le-of-eq (ap (λ (z : ℕ). 7 * z) (mul-comm Y X)))
+      pub by-minus : lt D (neg (thresholdOf X Y)) ≡ true → Minus ≡ filterBy D X Y
+      by-minus f = ap (λ (b : Bool). cond b Minus Open) (sym f) ∙ not-plus
 
-  least : (15 * (X * Y) ≤ d * L * 2 ^ 54) × (0 < d * L)
-  least =
-      difference-least d (rn 53 d) E L (X * Y) (rn-error 53 d some) gt l
-      (threshold-least K X Y L Qc E1 QE E l k qc (subst (λ (z : ℕ). gap z Qc * 2 ^ 53 ≤ Qc) (sym e1) (rn-error 53 Qc some))
-      qe (subst (λ (z : ℕ). gap z QE * 2 ^ 53 ≤ QE) (sym e2) (rn-error 53 QE some)))
+      pub by-none : lt D (neg (thresholdOf X Y)) ≡ false → Open ≡ filterBy D X Y
+      by-none f = ap (λ (b : Bool). cond b Minus Open) (sym f) ∙ not-plus
 
-  rounded-difference : plusOf v (rn 53 Q1 * L) + minusOf w (rn 53 Q2 * L) ≡ d * L + (minusOf v (rn 53 Q1 * L) + plusOf w (rn 53 Q2 * L))
-  rounded-difference =
-      close (plusOf v (R1 * L) + minusOf w (R2 * L)) (minusOf v (R1 * L) + plusOf w (R2 * L)) (d * L)
-      (ap (λ (z : ℕ). z * L) ed ∙ sub-mul (plusOf v R1 + minusOf w R2) (minusOf v R1 + plusOf w R2) L
-      ∙ ap₂ (λ (x y : ℕ). x - y)
-      (add-mul (plusOf v R1) (minusOf w R2) L ∙ ap₂ (λ (x y : ℕ). x + y) (signed-mul v R1 L .0) (signed-mul w R2 L .1))
-      (add-mul (minusOf v R1) (plusOf w R2) L ∙ ap₂ (λ (x y : ℕ). x + y) (signed-mul v R1 L .1) (signed-mul w R2 L .0)))
-      (least .1)
-    where
-      R1 : ℕ
-      R1 = rn 53 Q1
+-- ---- 001's bounds
+module _ (x y : Float) (rx : Reach reach x) (ry : Reach reach y) (some : 0 < mag binary64 (sub binary64 x y)) where
+  -- a rounded difference that is not zero lies from 2 ^ -452 to 2 ^ 401
+  pub difference-range : (2 ^ 622 ≤ mag binary64 (sub binary64 x y)) × (mag binary64 (sub binary64 x y) ≤ 2 ^ 1475)
+  difference-range = sub-range reach x y (lit≤ tt) rx ry some
 
-      R2 : ℕ
-      R2 = rn 53 Q2
-
-      close : (m n t : ℕ) → t ≡ m - n → 0 < t → m ≡ t + n
-      close m n t e h = omega arith
-
-  pub filter : minusOf v (A * D) + plusOf w (B * C) < plusOf v (A * D) + minusOf w (B * C)
-  filter =
-      difference-positive (X * Y) (d * L) (plusOf v (A * D)) (minusOf v (A * D)) (plusOf w (B * C)) (minusOf w (B * C))
-      (plusOf v (rn 53 Q1 * L)) (minusOf v (rn 53 Q1 * L)) (plusOf w (rn 53 Q2 * L)) (minusOf w (rn 53 Q2 * L))
-      (signed-gap v (A * D) (rn 53 Q1 * L) (7 * (X * Y)) first-error) (signed-gap w (B * C) (rn 53 Q2 * L) (7 * (X * Y)) second-error)
-      rounded-difference (least .1) (least .0)
+  -- so it is above 1e-146 and below 1e153, and needs no test of its own for underflow or overflow
+  pub difference-tests : (2 ^ 1074 < mag binary64 (sub binary64 x y) * 10 ^ 146) × (mag binary64 (sub binary64 x y) < 10 ^ 153 * 2 ^ 1074)
+  difference-tests =
+      let (low, high) = difference-range in
+      (lt-of-lt-of-le (lit< tt) (mul-le-mul-right (10 ^ 146) low), lt-of-le-of-lt high (lit< tt))

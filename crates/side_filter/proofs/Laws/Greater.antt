@@ -9,13 +9,15 @@ use native.Mathlib.Nat.{le-trans, le-of-eq, le-of-lt, lt-irrefl, add-zero}
 use native.Mathlib.Omega.{arith}
 use lib.Dec.{T, ltb, eqb, ltb→lt, nltb→le, eqb→eq}
 use lib.Ieee.Fits.{eq→eqb}
-use lib.Ieee.{Float, binary64, neg, lt, eq}
+use lib.Ieee.{Float, binary64, neg, lt, eq, ofBits}
 use Rattle.double.specs.Worth.{signBit, mag, plus, minus}
 use Rattle.double.proofs.Laws.Units.{Real}
 use Rattle.double.proofs.Laws.Compare.{eq-is}
 use Rattle.double.proofs.Laws.Signed.{Split, neg-own, part-both, lt-split}
 use Rattle.double.proofs.Laws.Zero.{plusZero, zero-real, lt-negative}
 use Rattle.double.proofs.Laws.Sized.{Sized, Sided, split-mag}
+use Rattle.point.specs.Accepted.{magnitudeOf}
+use Rattle.side_filter.specs.Filter.{greater}
 
 -- ---- X is the greater magnitude of a and b
 pub record Greater (X a b : Float) : Type 0 where
@@ -40,13 +42,8 @@ greater-sided g b {X} ru rv G = record {
 }
 
 -- by comparisons: with 0, and of two
-abbrev pub magnitude : Float → Float
-magnitude x = cond (lt x plusZero) (neg x) x
-
-abbrev pub greater : Float → Float → Float
-greater x y = cond (lt x y) y x
-
-magnitude-split : (x : Float) → Real binary64 x → Split false binary64 (magnitude x) (mag binary64 x) 0
+magnitude-split : (x : Float) → Real binary64 x → Split false binary64 (magnitudeOf x) (mag binary64 x) 0
+unfolding magnitudeOf ofBits
 magnitude-split x r = by (lt x plusZero) (lt-negative binary64 x r)
   where
     negative : (s : Bool) (n : ℕ) → 0 < cond s n 0 → s ≡ true
@@ -69,17 +66,17 @@ magnitude-split x r = by (lt x plusZero) (lt-negative binary64 x r)
         none : (m : ℕ) → m ≤ 0 → m ≡ 0
         none m z = omega arith
 
-pub greater-of : (a b : Float) → Real binary64 a → Real binary64 b → Greater (greater (magnitude a) (magnitude b)) a b
+pub greater-of : (a b : Float) → Real binary64 a → Real binary64 b → Greater (greater (magnitudeOf a) (magnitudeOf b)) a b
 greater-of a b ra rb =
-    by (lt (magnitude a) (magnitude b)) (lt-split false binary64 (magnitude a) (magnitude b) (mag binary64 a) (mag binary64 b) A B)
+    by (lt (magnitudeOf a) (magnitudeOf b)) (lt-split false binary64 (magnitudeOf a) (magnitudeOf b) (mag binary64 a) (mag binary64 b) A B)
   where
-    A : Split false binary64 (magnitude a) (mag binary64 a) 0
+    A : Split false binary64 (magnitudeOf a) (mag binary64 a) 0
     A = magnitude-split a ra
 
-    B : Split false binary64 (magnitude b) (mag binary64 b) 0
+    B : Split false binary64 (magnitudeOf b) (mag binary64 b) 0
     B = magnitude-split b rb
 
-    by : (c : Bool) → c ≡ ltb (mag binary64 a) (mag binary64 b) → Greater (cond c (magnitude b) (magnitude a)) a b
+    by : (c : Bool) → c ≡ ltb (mag binary64 a) (mag binary64 b) → Greater (cond c (magnitudeOf b) (magnitudeOf a)) a b
     by true e =
         let l = ltb→lt (mag binary64 a) (mag binary64 b) (subst T e tt) in
         let m = split-mag B in

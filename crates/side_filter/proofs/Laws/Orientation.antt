@@ -20,11 +20,12 @@ use Rattle.double.specs.Worth.{mag, plus, minus, worth}
 use Rattle.double.proofs.Laws.Digits.{gap}
 use Rattle.double.proofs.Laws.Rounding.{rn}
 use Rattle.double.proofs.Laws.Units.{Real}
+use Rattle.side_filter.specs.Filter.{spanOf}
 use Rattle.side_filter.proofs.Laws.By.{By, by-worth, by-mag, by-pos, by-add, by-sub, by-mul, by-scale}
 use Rattle.side_filter.proofs.Laws.By.{by-≤, by-positive, by-negative, by-zero}
 use Rattle.double.proofs.Laws.Sized.{Sided, Reach, gain, loss, falls, apart, sub-sided, sub-real, sub-zero-only}
-use Rattle.side_filter.proofs.Laws.Filter.{plusOf, minusOf}
-use Rattle.side_filter.proofs.Laws.Greater.{Greater, magnitude, greater, greater-of}
+use Rattle.side_filter.proofs.Laws.Numbers.{plusOf, minusOf}
+use Rattle.side_filter.proofs.Laws.Greater.{Greater, greater-of}
 use Rattle.side_filter.proofs.Laws.Threshold.{Constant, Decided, decide, difference, thresholdBy}
 
 -- ---- the determinant, in squares of units
@@ -255,14 +256,11 @@ module _ (k : ℕ) (h : k ≤ 434) (px py qx qy rx ry X Y K : Float) (con : Cons
       flat-y a b c d e f g h p q =
           omega (arith, ap (λ (z : ℕ). z * g) p, ap (λ (z : ℕ). z * h) p, ap (λ (z : ℕ). a * z) q, ap (λ (z : ℕ). b * z) q)
 
--- with X and Y by comparisons: the greater magnitude of u - p and v - p
-abbrev pub farther : Float → Float → Float → Float
-farther p u v = greater (magnitude (sub binary64 u p)) (magnitude (sub binary64 v p))
-
-pub filtered-farther : (k : ℕ) (px py qx qy rx ry K : Float) → Constant K → k ≤ 434
+-- with X and Y by comparisons
+pub filtered-span : (k : ℕ) (px py qx qy rx ry K : Float) → Constant K → k ≤ 434
     → Reach k px → Reach k py → Reach k qx → Reach k qy → Reach k rx → Reach k ry
-    → Filtered px py qx qy rx ry (farther px qx rx) (farther py qy ry) (thresholdBy K (farther px qx rx) (farther py qy ry))
-filtered-farther k px py qx qy rx ry K con h Px Py Qx Qy Rx Ry =
-    filtered k h px py qx qy rx ry (farther px qx rx) (farther py qy ry) K con Px Py Qx Qy Rx Ry
+    → Filtered px py qx qy rx ry (spanOf qx rx px) (spanOf qy ry py) (thresholdBy K (spanOf qx rx px) (spanOf qy ry py))
+filtered-span k px py qx qy rx ry K con h Px Py Qx Qy Rx Ry =
+    filtered k h px py qx qy rx ry (spanOf qx rx px) (spanOf qy ry py) K con Px Py Qx Qy Rx Ry
     (greater-of (sub binary64 qx px) (sub binary64 rx px) (sub-real k qx px (omega arith) Qx Px) (sub-real k rx px (omega arith) Rx Px))
     (greater-of (sub binary64 qy py) (sub binary64 ry py) (sub-real k qy py (omega arith) Qy Py) (sub-real k ry py (omega arith) Ry Py))

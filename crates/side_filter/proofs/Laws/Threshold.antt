@@ -1,7 +1,7 @@
 -- The filter on four rounded differences, at the floats: a and c in x, b and d in y, of exact magnitudes A, C, B, D. X and Y are the
 -- greater magnitudes, E is (K * X) * Y for a constant K and D is a * d - b * c, each operation rounded. Where D is above E the exact a * d
 -- is above the exact b * c, and where it is below -E it is below. In order: the constant; the comparisons with E and -E; the two products
--- and E in units; the decision. Not here: the numbers (`Filter`); the determinant (`Orientation`). Assumes nothing.
+-- and E in units; the decision. Not here: the numbers (`Numbers`); the determinant (`Orientation`). Assumes nothing.
 use mathlib.Core.Path.{_≡_, refl, sym, ap, ap₂, _∙_, subst}
 use mathlib.Core.Bool.{Bool, true, false}
 use Prim.Native.Nat.{ℕ, suc, _+_, _-_, _*_, _^_, _≤_, _<_}
@@ -20,7 +20,7 @@ use Rattle.double.proofs.Laws.Compare.{lt-is}
 use Rattle.double.proofs.Laws.Signed.{Split, neg-split}
 use Rattle.double.proofs.Laws.Sized.{Sided, sized-of, split-mag, unitsOf, units-whole, mul-sided, rn-pow}
 use Rattle.side_filter.proofs.Laws.Greater.{Greater, greater-sided}
-use Rattle.side_filter.proofs.Laws.Filter.{plusOf, minusOf, rounded-error, threshold-least, filter}
+use Rattle.side_filter.proofs.Laws.Numbers.{plusOf, minusOf, rounded-error, threshold-least, filter}
 
 -- ---- the constant: a K that decides is at least 8 / 2 ^ 53; its grain and bound keep E a whole number of units
 pub record Constant (K : Float) : Type 0 where

@@ -1,35 +1,36 @@
 -- The plain sum. In order: what the entries done so far add and take away, each below a bound, and the words that hold it; before the
--- first entry; one entry more; after the last, the sign of the words is the sign of the total; no two results satisfy the promise; a run
--- answers the same. Not here: words (`Words`); refusals (`Refused`). Assumes nothing.
+-- first entry; one entry more; after the last, the sign of the words is the sign of the total; no two results satisfy the promise.
+-- Not here: words (`Words`, and the crate `total`); refusals (`Refused`). Assumes nothing.
 use mathlib.Core.Path.{_≡_, refl, sym, ap, _∙_}
 use mathlib.Core.Logic.{_⊎_, inl, inr}
 use mathlib.Core.Bool.{Bool, true, false, cond}
 use mathlib.Core.List.{List}
 use Prim.Native.Nat.{ℕ, zero, suc, _+_, _*_, _^_, _≤_, _<_}
-use native.Mathlib.Nat.{le-trans, le-of-lt, lt-of-lt-of-le, lt-of-le-of-lt, mul-le-mul-right, eq-zero-or-pos}
+use native.Mathlib.Nat.{le-trans, le-of-eq, le-of-lt, lt-of-le-of-lt, mul-le-mul-right, eq-zero-or-pos}
 use native.Mathlib.Numerals.{add-one}
 use native.Mathlib.Omega.{arith}
 use lib.Dec.{leb, eqb, ltb→lt}
 use lib.IntN.{ℤ, pos, negℤ, _+ℤ_, _-ℤ_}
 use lib.ListN.{length, getD, drop, drop-of-length-le}
-use lib.Pow.{pow-mono, shl-lt}
 use lib.Seq.{drop-cons}
-use lib.Ieee.{Float, nan}
+use lib.Ieee.{Float, nan, binary64}
 use borrow.Author.Tests.{le-leb, lt-leb, eq-eqb, ne-eqb}
 use Rattle.whole.specs.Sign.{sgn}
 use Rattle.whole.proofs.Laws.Parts.{up, dn, up-neg, dn-neg, add-parts, ≡-parts}
 use Rattle.whole.proofs.Laws.Sign.{sgn-nat-positive, sgn-nat-zero, sgn-nat-negative}
-use Rattle.double.specs.Worth.{worth}
 use Rattle.refusal.specs.Outcome.{Fixes}
-use Rattle.double.specs.declared.answer.Parts.{Parts}
-use Rattle.double.proofs.Laws.Apart.{Means}
 use Rattle.refusal.proofs.Laws.Outcome.{refuses-once}
+use Rattle.double.specs.Worth.{signBit, mag, worth}
+use Rattle.double.proofs.Laws.Units.{Real, mag-lt}
+use Rattle.double.proofs.Laws.Worth.{worth-up, worth-dn}
+use Rattle.total.specs.Words.{base, count, modulus, valueOf}
+use Rattle.total.specs.Parts.{Changed}
+use Rattle.total.proofs.Laws.Words.{past}
 use Rattle.sum.specs.Limit.{limit}
 use Rattle.sum.specs.Total.{totalOf, signNumber}
 use Rattle.sum.specs.Plain.{plainSaid, PlainSays}
-use Rattle.sum.specs.Words.{base, count, modulus, half, valueOf, Changed, unitsOf, addsOf, takesOf, signHeld}
+use Rattle.sum.specs.Words.{half, signHeld}
 use Rattle.sum.proofs.Laws.Look.{sign-once}
-use Rattle.sum.proofs.Laws.Words.{past}
 use Rattle.sum.specs.declared.answer.Sign.the-variants.{Minus, Zero, Plus}
 use Rattle.sum.specs.declared.answer.Plain.{Plain}
 use Rattle.sum.specs.declared.answer.Plain.the-variants.{Signed, Refused}
@@ -63,23 +64,17 @@ held-start xs ws e = record {
 }
 
 -- ---- one entry more
-units-most : (p : Parts) → p .significand < 2 ^ 53 → p .exponent ≤ 2045 → unitsOf p ≤ most
+-- either part of a worth is at most the magnitude
+worth-most : (x : Float) → Real binary64 x → (up (worth x) ≤ most) × (dn (worth x) ≤ most)
 unfolding most
-units-most p h k = le-of-lt (lt-of-lt-of-le (shl-lt 53 (p .exponent) h) (pow-mono (fits (p .exponent) k)))
+worth-most x r =
+    let small = le-of-lt (mag-lt binary64 x r) in
+    let each = signed-most (signBit x) (mag binary64 x) in
+    (le-trans (le-of-eq (worth-up x)) (le-trans (each .0) small), le-trans (le-of-eq (worth-dn x)) (le-trans (each .1) small))
   where
-    fits : (e : ℕ) → e ≤ 2045 → 53 + e ≤ 2098
-    fits e k = omega arith
-
--- the two parts of a number with a sign
-signed-parts : (b : Bool) (n : ℕ) → (up (cond b (negℤ (pos n)) (pos n)) ≡ cond b 0 n) × (dn (cond b (negℤ (pos n)) (pos n)) ≡ cond b n 0)
-unfolding up dn
-signed-parts true n = (up-neg (pos n), dn-neg (pos n))
-signed-parts false n = (refl, refl)
-
--- either part is at most the number
-signed-most : (b : Bool) (n : ℕ) → (cond b 0 n ≤ n) × (cond b n 0 ≤ n)
-signed-most true n = (omega arith, omega arith)
-signed-most false n = (omega arith, omega arith)
+    signed-most : (b : Bool) (n : ℕ) → (cond b 0 n ≤ n) × (cond b n 0 ≤ n)
+    signed-most true n = (omega arith, omega arith)
+    signed-most false n = (omega arith, omega arith)
 
 total-next : (xs : List Float) (i : ℕ) → i < length xs → totalOf (drop i xs) ≡ worth (getD xs i nan) +ℤ totalOf (drop (i + 1) xs)
 unfolding totalOf
@@ -98,25 +93,20 @@ changed-held : (m v w a b x y o u l r : ℕ) → w + b + m * o ≡ v + a + m * u
     → w + (y + b) + m * (l + o) ≡ x + a + m * (r + u)
 changed-held m v w a b x y o u l r e f = omega arith
 
-pub held-next : (xs : List Float) (i : ℕ) (ws after : List ℕ) (p : Parts) → i < length xs → Means (getD xs i nan) p
-    → length ws ≡ count → Changed base ws after (addsOf p) (takesOf p) → Held xs i ws → Held xs (i + 1) after
-held-next xs i ws after p h m l s r =
+pub held-next : (xs : List Float) (i : ℕ) (ws after : List ℕ) → i < length xs → Real binary64 (getD xs i nan)
+    → length ws ≡ count → Changed base ws after (up (worth (getD xs i nan))) (dn (worth (getD xs i nan)))
+    → Held xs i ws → Held xs (i + 1) after
+held-next xs i ws after h d l s r =
     let w : ℤ = worth (getD xs i nan) in
     let left : ℤ = totalOf (drop i xs) in
     let rest : ℤ = totalOf (drop (i + 1) xs) in
-    let signs = signed-parts (p .negative) (unitsOf p) in
-    let adds : up w ≡ addsOf p = ap up (m .worth-is) ∙ signs .0 in
-    let takes : dn w ≡ takesOf p = ap dn (m .worth-is) ∙ signs .1 in
-    let e : left ≡ w +ℤ rest = total-next xs i h in
-    let parts : up left + (takesOf p + dn rest) ≡ dn left + (addsOf p + up rest) =
-    rw (e, ← adds, ← takes) (add-parts w rest) in
-    let small : unitsOf p ≤ most = units-most p (m .significand-range) (m .exponent-range) in
-    let each = signed-most (p .negative) (unitsOf p) in
+    let parts : up left + (dn w + dn rest) ≡ dn left + (up w + up rest) = rw (total-next xs i h) (add-parts w rest) in
+    let small = worth-most (getD xs i nan) d in
     record {
-      added = r .added + addsOf p;
-      taken = r .taken + takesOf p;
-      added-most = most-next i (r .added) (addsOf p) (r .added-most) (le-trans (each .0) small);
-      taken-most = most-next i (r .taken) (takesOf p) (r .taken-most) (le-trans (each .1) small);
+      added = r .added + up w;
+      taken = r .taken + dn w;
+      added-most = most-next i (r .added) (up w) (r .added-most) (small .0);
+      taken-most = most-next i (r .taken) (dn w) (r .taken-most) (small .1);
       over = r .over + s .over;
       under = r .under + s .under;
       held = changed-held modulus _ _ _ _ _ _ _ _ _ _ (rw (past (length ws) l) at (s .value-is)) (r .held);

@@ -1,72 +1,35 @@
--- What words are worth, the lowest first. In order, by any base B: a word that is stored; words behind others; the worth is below the power
--- that follows the words, and the highest word decides. Then the sign that 33 words of 64 bits hold.
--- Not here: words that change (`Changed`). Assumes nothing.
+-- The sign that words hold. In order, by any base B: the highest word decides, and words that are 0 tell nothing; then the sign that 33
+-- words of 64 bits hold. Not here: what words are worth (`total`). Assumes nothing.
 use mathlib.Core.Path.{_≡_, sym, ap, _∙_, subst}
 use mathlib.Core.Bool.{Bool, true, false, cond}
-use mathlib.Core.List.{List, [], _∷_, _++_}
-use Prim.Native.Nat.{ℕ, zero, suc, _+_, _-_, _*_, _^_, _≤_, _<_, suc-le-suc, zero-le}
-use native.Mathlib.Nat.{pow-zero, pow-succ', le-of-suc-le-suc, not-suc-le-zero, mul-le-mul-left}
-use native.Mathlib.Nat.{lt-of-lt-of-le, le-of-eq, mul-pos, mul-zero, one-le-pow}
+use mathlib.Core.List.{List, _∷_}
+use Prim.Native.Nat.{ℕ, suc, _+_, _-_, _*_, _^_, _≤_, _<_}
+use native.Mathlib.Nat.{pow-succ', mul-le-mul-left, lt-of-lt-of-le, le-of-eq, mul-pos, mul-zero, one-le-pow}
 use native.Mathlib.Numerals.{add-one}
 use native.Mathlib.Omega.{arith}
 use lib.Dec.{eqb}
-use lib.ListN.{length, getD, set, take, drop, drop-of-length-le, take-append-drop}
+use lib.ListN.{length, getD, take, drop, drop-of-length-le}
 use lib.Seq.{drop-cons, length-take-le, getD-take}
 use borrow.Author.Tests.{le-leb, lt-leb, eq-eqb, ne-eqb}
-use Rattle.sum.specs.Words.{base, count, modulus, half, valueOf, signHeld}
+use Rattle.total.specs.Words.{base, count, modulus, valueOf}
+use Rattle.total.proofs.Laws.Words.{Below, value-split, value-below, past}
+use Rattle.sum.specs.Words.{half, signHeld}
 use Rattle.sum.specs.declared.answer.Sign.{Sign}
 use Rattle.sum.specs.declared.answer.Sign.the-variants.{Minus, Zero, Plus}
 
 module _ (B : ℕ) where
-  -- ---- a word that is stored
-  pub value-set : (ws : List ℕ) (k v : ℕ) → k < length ws → valueOf B (set ws k v) + getD ws k 0 * B ^ k ≡ valueOf B ws + v * B ^ k
-  unfolding valueOf
-  value-set [] k v h = absurd (not-suc-le-zero h)
-  value-set (w ∷ ws) zero v h = rw pow-zero (omega arith)
-  value-set (w ∷ ws) (suc k) v h =
-      let ih = ap (λ (z : ℕ). B * z) (value-set ws k v (le-of-suc-le-suc h)) in
-      rw (pow-succ' B k) (omega arith)
-
-  -- ---- words behind others
-  value-append : (us vs : List ℕ) → valueOf B (us ++ vs) ≡ valueOf B us + B ^ length us * valueOf B vs
-  unfolding valueOf
-  value-append [] vs = rw pow-zero (omega arith)
-  value-append (u ∷ us) vs =
-      let ih = ap (λ (z : ℕ). B * z) (value-append us vs) in
-      rw (pow-succ' B (length us)) (omega arith)
-
-  pub value-front : (n : ℕ) (ws vs : List ℕ) → n ≤ length ws → valueOf B (take n ws ++ vs) ≡ valueOf B (take n ws) + B ^ n * valueOf B vs
-  value-front n ws vs h =
-      value-append (take n ws) vs ∙ ap (λ (k : ℕ). valueOf B (take n ws) + B ^ k * valueOf B vs) (length-take-le n ws h)
-
-  pub value-split : (n : ℕ) (ws : List ℕ) → n ≤ length ws → valueOf B ws ≡ valueOf B (take n ws) + B ^ n * valueOf B (drop n ws)
-  value-split n ws h = sym (ap (valueOf B) (take-append-drop n ws)) ∙ value-front n ws (drop n ws) h
-
-  -- ---- what words are worth
-  -- each is below the base
-  abbrev pub Below : List ℕ → Type 0
-  Below ws = (k : ℕ) → k < length ws → getD ws k 0 < B
-
-  pub value-below : (ws : List ℕ) → Below ws → valueOf B ws < B ^ length ws
-  unfolding valueOf
-  value-below [] h = rw pow-zero (omega arith)
-  value-below (w ∷ ws) h =
-      let first : w < B = h 0 (suc-le-suc zero-le) in
-      let rest = mul-le-mul-left B (value-below ws (λ k l. h (suc k) (suc-le-suc l))) in
-      rw (pow-succ' B (length ws)) (omega (arith, rest))
-
   -- the highest word decides between multiples of its power
-  module _ (n : ℕ) (ws : List ℕ) (e : length ws ≡ suc n) (h : Below ws) where
+  module _ (n : ℕ) (ws : List ℕ) (e : length ws ≡ suc n) (h : Below B ws) where
     rest-below : valueOf B (take n ws) < B ^ n
     rest-below =
         let l : length (take n ws) ≡ n = length-take-le n ws (omega arith) in
         subst (λ (k : ℕ). valueOf B (take n ws) < B ^ k) l
-        (value-below (take n ws) (λ k g. let i : k < n = omega (arith, l) in rw (getD-take n ws k 0 i) (h k (omega arith))))
+        (value-below B (take n ws) (λ k g. let i : k < n = omega (arith, l) in rw (getD-take n ws k 0 i) (h k (omega arith))))
 
     value-top : valueOf B ws ≡ valueOf B (take n ws) + B ^ n * getD ws n 0
     unfolding valueOf
     value-top =
-        value-split n ws (omega arith)
+        value-split B n ws (omega arith)
         ∙ ap (λ (v : List ℕ). valueOf B (take n ws) + B ^ n * valueOf B v)
         (drop-cons ws n 0 (omega arith) ∙ ap (λ (v : List ℕ). getD ws n 0 ∷ v) (drop-of-length-le ws {i = suc n} (omega arith)))
         ∙ alone (valueOf B (take n ws)) (B ^ n) (getD ws n 0)
@@ -94,11 +57,6 @@ module _ (B : ℕ) where
 -- by whether the total is from half the modulus on
 abbrev sign-by : ℕ → Bool → Sign
 sign-by v b = cond b Minus (cond (eqb v 0) Zero Plus)
-
--- where 33 words end
-pub past : (i : ℕ) → i ≡ count → base ^ i ≡ modulus
-unfolding modulus
-past i e = ap (λ (n : ℕ). base ^ n) e
 
 module _ (ws : List ℕ) (e : length ws ≡ count) (b : Below base ws) where
   pub held-below : valueOf base ws < modulus

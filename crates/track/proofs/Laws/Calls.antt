@@ -2,7 +2,7 @@
 -- reading it answers; what a call leaves as it was; the bytes at which a file is refused; reading after writing; writing after reading. Not
 -- here: the same over any limit (Laws.RoundTrip, Laws.First, Laws.Refusals). Assumes nothing.
 use Prim.Native.Nat.{ℕ, _+_, _*_, _/_, _≤_}
-use mathlib.Core.Path.{_≡_, refl, sym, ap, _∙_}
+use mathlib.Core.Path.{_≡_, sym, ap, _∙_}
 use mathlib.Core.List.{List, _++_}
 use native.Mathlib.Omega.{arith}
 use lib.ListN.{length, take, drop}
@@ -12,7 +12,7 @@ use Rattle.refusal.specs.Outcome.{Outcome, answers, refuses}
 use Rattle.refusal.specs.declared.Refusal.{Refusal}
 use Rattle.double.specs.Worth.{AllDoubles}
 use Rattle.refusal.specs.Judged.{filled}
-use Rattle.track.specs.Number.{groupsOf, writtenOf, Bytes}
+use Rattle.number.specs.Number.{Bytes}
 use Rattle.track.specs.File.{limit, largest, mostBytes}
 use Rattle.track.specs.Write.{writeOf, WriteSays}
 use Rattle.track.specs.Read.{readOf, ReadSays}
@@ -27,15 +27,14 @@ use Rattle.track.proofs.Laws.Refusals.{Faulted, read-faulted}
 use Rattle.track.proofs.Laws.Points.{read-held}
 use Rattle.track.proofs.Laws.RoundTrip.{read-write, write-read, write-length}
 use Rattle.track.proofs.Laws.First.{read-first}
+use Rattle.number.proofs.Laws.Written.{written-two}
 
 -- ---- lengths
 pub largest-is : largest limit ≡ mostBytes
-unfolding writtenOf groupsOf
-largest-is = refl
+largest-is = omega (arith, written-two limit (omega arith) (omega arith))
 
 pub written-most : (points : List Float) (room : ℕ) (file : List ℕ) → writeOf limit points room ≡ answers file → length file ≤ mostBytes
-unfolding writtenOf groupsOf
-written-most points room file e = write-length limit points room file e
+written-most points room file e = omega (arith, write-length limit points room file e, largest-is)
 
 pub read-most : (file : List ℕ) (room : ℕ) (points : List Float) → Bytes file → readOf limit file room ≡ answers points
     → length file ≤ mostBytes
@@ -43,8 +42,8 @@ read-most file room points all e = written-most points (length file) file
     (write-read limit file room points all e (length file) (omega arith))
 
 pub read-enough : (file : List ℕ) (room : ℕ) → Bytes file → readOf limit (take (mostBytes + 1) file) room ≡ readOf limit file room
-unfolding writtenOf groupsOf
-read-enough file room all = read-first limit (omega arith) file room all
+read-enough file room all =
+    ap (λ (n : ℕ). readOf limit (take (n + 1) file) room) (sym largest-is) ∙ read-first limit (omega arith) file room all
 
 -- ---- what each call tells
 -- what is answered stands at the start of what was lent

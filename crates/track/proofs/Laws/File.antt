@@ -1,5 +1,5 @@
 -- The bytes of a list of points. In order: one coordinate more; how long they are, ten bytes for each coordinate; a run of stores that
--- writes them. Not here: one number (Laws.Written). Assumes nothing.
+-- writes them. Not here: one number (Laws.Put). Assumes nothing.
 use Prim.Native.Nat.{ℕ, suc, _+_, _*_, _/_, _≤_, _<_}
 use mathlib.Core.Path.{_≡_, refl, sym, ap, _∙_}
 use mathlib.Core.List.{List, [], _∷_, _++_}
@@ -9,10 +9,10 @@ use native.Mathlib.Omega.{arith}
 use lib.ListN.{length, drop, getD, set, length-append, drop-of-length-le}
 use lib.Seq.{drop-cons, sets, length-sets}
 use lib.Ieee.{Float, binary64, toBits}
-use Rattle.track.specs.Number.{writtenOf}
-use Rattle.track.specs.Difference.{storedOf}
+use Rattle.number.specs.Number.{writtenOf}
+use Rattle.coordinate.specs.Difference.{storedOf}
 use Rattle.track.specs.File.{coordinateBytes, fileOf, largest}
-use Rattle.track.proofs.Laws.Written.{written-length, written-mono}
+use Rattle.number.proofs.Laws.Written.{written-length, written-mono}
 
 -- ---- one coordinate more
 module _ (points : List Float) (before other i : ℕ) (z : Float) where

@@ -1,5 +1,5 @@
--- The first bytes of a file decide what reading it answers. In order: one coordinate; all of them; the whole file, for which 10,243 bytes
--- are enough. Not here: one number (Laws.Taken). Assumes nothing.
+-- The first bytes of a file decide what reading it answers. In order: all coordinates; the whole file, for which 10,243 bytes are enough. Not
+-- here: one number (Laws.Taken of crate number), one coordinate (Laws.Taken of crate coordinate). Assumes nothing.
 use Prim.Native.Nat.{ℕ, zero, suc, _+_, _*_, _≤_, _<_}
 use mathlib.Core.Path.{_≡_, refl, sym, ap, _∙_}
 use mathlib.Core.Bool.{Bool, true, false}
@@ -8,39 +8,21 @@ use native.Mathlib.Omega.{arith}
 use borrow.Author.Tests.{le-leb, lt-leb, leb-true, leb-false}
 use lib.Dec.{leb}
 use lib.ListN.{length, take, length-take}
-use lib.Ieee.{Float, binary64, ofBits}
-use Rattle.refusal.specs.Outcome.{Outcome, answers, refuses, tooMany, noRoom, notAccepted, bytesAfter}
-use Rattle.point.specs.Accepted.{acceptedOf}
+use lib.Ieee.{Float}
+use Rattle.refusal.specs.Outcome.{Outcome, answers, refuses, tooMany, noRoom, bytesAfter}
 use Rattle.refusal.specs.Judged.{require, also}
-use Rattle.track.specs.Number.{Bytes, numberOf}
-use Rattle.track.specs.Difference.{restoredOf}
+use Rattle.number.specs.Number.{Bytes, numberOf}
 use Rattle.track.specs.File.{largest}
-use Rattle.track.specs.Coordinate.{judgedOf, coordinateOf}
+use Rattle.coordinate.specs.Coordinate.{coordinateOf}
 use Rattle.track.specs.Read.{coordinatesOf, countedOf, readOf}
-use Rattle.track.specs.declared.number.Number.{Number}
-use Rattle.track.specs.declared.coordinate.Coordinate.{Coordinate}
-use Rattle.refusal.proofs.Laws.Judged.{also-answered, require-answered}
-use Rattle.track.proofs.Laws.Written.{written-length, written-mono}
+use Rattle.number.specs.declared.answer.Number.{Number}
+use Rattle.coordinate.specs.declared.answer.Coordinate.{Coordinate}
+use Rattle.number.proofs.Laws.Written.{written-length, written-mono}
 use Rattle.track.proofs.Laws.Scan.{coordinates-end, coordinates-turn}
-use Rattle.track.proofs.Laws.Taken.{Read, number-read, number-near, number-first}
+use Rattle.number.proofs.Laws.Taken.{Read, number-read, number-first}
+use Rattle.coordinate.proofs.Laws.Taken.{coordinate-near, coordinate-first}
 
--- ---- one coordinate
-coordinate-first : (file : List ℕ) (n start before : ℕ) → start + 10 ≤ n
-    → coordinateOf (take n file) start before ≡ coordinateOf file start before
-unfolding coordinateOf
-coordinate-first file n start before h =
-    ap (λ (o : Outcome Number). also o (λ m. judgedOf (restoredOf (m .value) before) start (m .next))) (number-first file n start h)
-
-coordinate-near : (file : List ℕ) (start before : ℕ) (c : Coordinate) → coordinateOf file start before ≡ answers c → c .next ≤ start + 10
-unfolding coordinateOf judgedOf
-coordinate-near file start before c e =
-    let a = also-answered (numberOf file start) _ e in
-    let p = restoredOf (a .0 .value) before in
-    let g = require-answered (acceptedOf (ofBits binary64 p)) notAccepted start _ (a .2) in
-    let is : record { value = ofBits binary64 p; pattern = p; next = a .0 .next } ≡ c = cc (g .1) in
-    omega (arith, number-near file start (a .0) (a .1), ap (λ (z : Coordinate). z .next) is)
-
--- ---- all of them
+-- ---- all coordinates
 -- whether bytes follow an offset below n
 end-first : (file : List ℕ) (n start : ℕ) → start < n → leb (length (take n file)) start ≡ leb (length file) start
 end-first file n start h = go (leb (length file) start) refl

@@ -10,33 +10,21 @@ use borrow.Author.Tests.{leb-true}
 use lib.Dec.{leb}
 use lib.ListN.{length, take, drop}
 use lib.Seq.{take-append-seam}
-use lib.Ieee.{Float, binary64, ofBits}
-use Rattle.refusal.specs.Outcome.{Outcome, answers, tooMany, notAccepted, noRoom, bytesAfter}
+use lib.Ieee.{Float}
+use Rattle.refusal.specs.Outcome.{Outcome, answers, tooMany, noRoom, bytesAfter}
 use Rattle.point.specs.Accepted.{acceptedOf}
 use Rattle.refusal.specs.Judged.{filled}
-use Rattle.track.specs.Number.{numberOf}
-use Rattle.track.specs.Difference.{restoredOf}
+use Rattle.number.specs.Number.{numberOf}
 use Rattle.track.specs.File.{limit}
 use Rattle.track.specs.Write.{AllAccepted}
-use Rattle.track.specs.Coordinate.{judgedOf, coordinateOf}
+use Rattle.coordinate.specs.Coordinate.{coordinateOf}
 use Rattle.track.specs.Read.{coordinatesOf, countedOf, readOf, ReadSays}
-use Rattle.track.specs.declared.coordinate.Coordinate.{Coordinate}
 use Rattle.track.specs.declared.answer.Reading.the-variants.{Points}
 use Rattle.refusal.proofs.Laws.Judged.{also-answered, require-answered}
+use Rattle.coordinate.proofs.Laws.Taken.{coordinate-accepted}
 use Rattle.track.proofs.Laws.Scan.{coordinates-end, coordinates-turn}
 
 -- ---- coordinates
-coordinate-accepted : (bytes : List ℕ) (start before : ℕ) (c : Coordinate) → coordinateOf bytes start before ≡ answers c
-    → acceptedOf (c .value) ≡ true
-unfolding coordinateOf judgedOf
-coordinate-accepted bytes start before c e =
-    let a = also-answered (numberOf bytes start) _ e in
-    let m = a .0 in
-    let p = restoredOf (m .value) before in
-    let g = require-answered (acceptedOf (ofBits binary64 p)) notAccepted start _ (a .2) in
-    let is : record { value = ofBits binary64 p; pattern = p; next = m .next } ≡ c = cc (g .1) in
-    subst (λ (c : Coordinate). acceptedOf (c .value) ≡ true) is (g .0)
-
 -- n coordinates, each accepted
 record Coordinates (n : ℕ) (points : List Float) : Type 0 where
   many : length points ≡ n

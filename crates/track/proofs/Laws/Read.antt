@@ -1,5 +1,5 @@
 -- What the reader answers. In order: number by number, as a list is filled; each answer after the count; the promise, which no two results
--- satisfy. Not here: one coordinate (Laws.Coordinate). Assumes nothing.
+-- satisfy. Not here: one coordinate (Laws.Coordinate of crate coordinate). Assumes nothing.
 use Prim.Native.Nat.{ℕ, suc, _+_, _-_, _*_, _/_, _≤_, _<_}
 use mathlib.Core.Path.{_≡_, refl, sym, ap, ap₂, _∙_, subst}
 use mathlib.Core.List.{List, [], _∷_, _++_, append-nil}
@@ -14,13 +14,13 @@ use Rattle.refusal.specs.Outcome.{Outcome, answers, refuses, Fixes, tooMany, no
 use Rattle.refusal.specs.declared.Refusal.{Refusal}
 use Rattle.refusal.proofs.Laws.Outcome.{refuses-once}
 use Rattle.refusal.specs.Judged.{require, also, filled}
-use Rattle.track.specs.Number.{numberOf}
-use Rattle.track.specs.Coordinate.{coordinateOf}
+use Rattle.number.specs.Number.{numberOf}
+use Rattle.coordinate.specs.Coordinate.{coordinateOf}
 use Rattle.track.specs.File.{limit}
 use Rattle.track.specs.Read.{coordinatesOf, countedOf, readOf, pointsSaid, said, ReadSays}
 use Rattle.track.specs.Parts.{Promised, decoded}
-use Rattle.track.specs.declared.number.Number.{Number}
-use Rattle.track.specs.declared.coordinate.Coordinate.{Coordinate}
+use Rattle.number.specs.declared.answer.Number.{Number}
+use Rattle.coordinate.specs.declared.answer.Coordinate.{Coordinate}
 use Rattle.track.specs.declared.answer.Reading.{Reading}
 use Rattle.track.specs.declared.answer.Reading.the-variants.{Points, Refused}
 use Rattle.track.specs.declared.reader.Decoded.{Decoded}

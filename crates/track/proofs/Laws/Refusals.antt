@@ -1,6 +1,6 @@
 -- Which refusals the reader gives. In order: those of all coordinates, and of a whole file, by what each can be; the bytes at a 6 or 7; the
 -- numbers that there are where there is room for the most points. Not here: which of them is given (Laws.Read), the bytes of one number
--- (Laws.Faults). Assumes nothing.
+-- (Laws.Faults of crate number). Assumes nothing.
 use Prim.Native.Nat.{ℕ, zero, suc, _*_, _≤_, _<_}
 use mathlib.Core.Path.{_≡_, refl}
 use mathlib.Core.Bool.{Bool, true, false, _||_}
@@ -11,13 +11,13 @@ use lib.Dec.{eqb, leb}
 use lib.ListN.{length, drop}
 use Rattle.refusal.specs.Outcome.{Outcome, answers, tooMany, notAccepted, endsEarly, notShortest, bytesAfter, noRoom}
 use Rattle.refusal.specs.Judged.{require, also}
-use Rattle.track.specs.Number.{numberOf}
-use Rattle.track.specs.Coordinate.{coordinateOf}
+use Rattle.number.specs.Number.{numberOf}
+use Rattle.coordinate.specs.Coordinate.{coordinateOf}
 use Rattle.track.specs.Read.{coordinatesOf, countedOf, readOf}
 use Rattle.refusal.proofs.Laws.Judged.{Each, each-answers, each-also, each-require}
-use Rattle.track.proofs.Laws.Number.{number-each}
-use Rattle.track.proofs.Laws.Faults.{EndsEarly, NotShortest, number-early, number-faulty}
-use Rattle.track.proofs.Laws.Coordinate.{coordinate-each}
+use Rattle.number.proofs.Laws.Number.{number-each}
+use Rattle.number.proofs.Laws.Faults.{EndsEarly, NotShortest, number-early, number-faulty}
+use Rattle.coordinate.proofs.Laws.Coordinate.{coordinate-each}
 use Rattle.track.proofs.Laws.Scan.{coordinates-end, coordinates-turn}
 
 -- ---- each refusal of the reader

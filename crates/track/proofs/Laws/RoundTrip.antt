@@ -1,68 +1,37 @@
--- Writing and reading undo one another. In order: one coordinate and a list of them read back; the bytes of coordinates that were read;
--- reading what was written, and writing what was read. Not here: one number (Laws.Number, Laws.Taken), one difference (Laws.Difference).
--- Assumes nothing.
+-- Writing and reading undo one another. In order: a list of coordinates reads back; the bytes of coordinates that were read; reading what
+-- was written, and writing what was read. Not here: one number (Laws.Number and Laws.Taken of crate number), one coordinate (Laws.Taken of
+-- crate coordinate). Assumes nothing.
 use Prim.Native.Nat.{ℕ, zero, suc, _+_, _-_, _*_, _/_, _%_, _^_, _≤_, _<_}
 use mathlib.Core.Path.{_≡_, refl, sym, ap, _∙_, subst}
-use mathlib.Core.Bool.{true, false}
 use mathlib.Core.List.{List, [], _∷_, _++_}
 use native.Mathlib.Omega.{arith}
 use borrow.Author.Tests.{le-leb, leb-true, eqb-true}
-use lib.Dec.{T, eqb, leb}
+use lib.Dec.{eqb, leb}
 use lib.ListN.{length, drop, length-drop, drop-of-length-le}
-use lib.Seq.{drop-drop, drop-append-seam}
-use lib.Ieee.{Float, binary64, fits, ofBits, toBits}
-use lib.Ieee.Bits.{ofBits-toBits, toBits-ofBits, toBits-lt}
+use lib.Ieee.{Float, binary64, toBits}
+use lib.Ieee.Bits.{toBits-lt}
 use Rattle.refusal.specs.Outcome.{answers, oddLength, tooMany, notAccepted, noRoom, bytesAfter}
 use Rattle.refusal.specs.Search.{passingFrom}
 use Rattle.point.specs.Accepted.{acceptedOf}
 use Rattle.double.specs.Worth.{AllDoubles}
-use Rattle.track.specs.Number.{writtenOf, full, Bytes, beginsWith, placed, numberOf}
-use Rattle.track.specs.Difference.{storedOf, restoredOf}
+use Rattle.number.specs.Number.{writtenOf, Bytes, numberOf}
+use Rattle.coordinate.specs.Difference.{storedOf}
 use Rattle.track.specs.File.{coordinateBytes, fileOf, largest}
 use Rattle.track.specs.Write.{acceptedFrom, writeOf}
-use Rattle.track.specs.Coordinate.{judgedOf, coordinateOf}
+use Rattle.coordinate.specs.Coordinate.{coordinateOf}
 use Rattle.track.specs.Read.{coordinatesOf, countedOf, readOf}
-use Rattle.track.specs.declared.number.Number.{Number}
-use Rattle.track.specs.declared.coordinate.Coordinate.{Coordinate}
+use Rattle.number.specs.declared.answer.Number.{Number}
 use Rattle.refusal.proofs.Laws.Judged.{also-answers, require-holds, also-answered, require-answered}
-use Rattle.track.proofs.Laws.Number.{number-written}
-use Rattle.track.proofs.Laws.Taken.{number-read}
-use Rattle.track.proofs.Laws.Difference.{restored-stored, restored-below, stored-below, stored-restored}
-use Rattle.track.proofs.Laws.Coordinate.{accepted-number, judged-accepted, coordinate-judged}
+use Rattle.number.proofs.Laws.Number.{number-back}
+use Rattle.number.proofs.Laws.Taken.{number-read}
+use Rattle.coordinate.proofs.Laws.Difference.{stored-below}
+use Rattle.coordinate.proofs.Laws.Taken.{coordinate-back, coordinate-taken}
 use Rattle.track.proofs.Laws.Scan.{coordinates-end, coordinates-turn}
 use Rattle.track.proofs.Laws.File.{file-length}
 use Rattle.track.proofs.Laws.Write.{accepted-cons, write-whole}
 use Rattle.track.proofs.Laws.Read.{counted-read}
 
--- ---- a written number, at its offset
-number-back : (file : List ℕ) (start v : ℕ) (rest : List ℕ) → v < 2 ^ 64 → drop start file ≡ writtenOf v ++ rest
-    → (answers (record { value = v; next = start + length (writtenOf v) }) ≡ numberOf file start)
-    × (drop (start + length (writtenOf v)) file ≡ rest)
-unfolding numberOf placed
-number-back file start v rest h e = (
-  sym (ap (placed start) (ap (beginsWith full false) e ∙ number-written v rest h)),
-  sym (drop-drop (length (writtenOf v)) start file) ∙ ap (drop (length (writtenOf v))) e ∙ drop-append-seam (writtenOf v) rest,
-)
-
--- ---- a written coordinate
-coordinate-back : (file : List ℕ) (start before : ℕ) (x : Float) (rest : List ℕ) → before < 2 ^ 64 → T (fits binary64 x)
-    → acceptedOf x ≡ true
-    → drop start file ≡ writtenOf (storedOf (toBits binary64 x) before) ++ rest
-    → coordinateOf file start before
-    ≡ answers (record { value = x; pattern = toBits binary64 x; next = start + length (writtenOf (storedOf (toBits binary64 x) before)) })
-coordinate-back file start before x rest hb fit good e =
-    let p = toBits binary64 x in
-    let z = storedOf p before in
-    let next = start + length (writtenOf z) in
-    let hp : p < 2 ^ 64 = toBits-lt binary64 x fit in
-    let back : restoredOf z before ≡ p = restored-stored p before hp hb in
-    let same : ofBits binary64 p ≡ x = ofBits-toBits binary64 x fit in
-    let n = number-back file start z rest (stored-below p before hp hb) e in
-    sym (coordinate-judged file start before (record { value = z; next = next }) (n .0))
-    ∙ ap (λ (q : ℕ). judgedOf q start next) back
-    ∙ sym (judged-accepted p start next (ap acceptedOf same ∙ good))
-    ∙ ap (λ (y : Float). answers (record { value = y; pattern = p; next = next })) same
-
+-- ---- written coordinates
 coordinates-back : (points : List Float) (file : List ℕ) (start before other k : ℕ) → before < 2 ^ 64 → other < 2 ^ 64 → AllDoubles points
     → acceptedFrom k points ≡ answers tt → drop start file ≡ coordinateBytes before other points
     → coordinatesOf file start before other (length points) ≡ answers points
@@ -82,33 +51,8 @@ coordinates-back (x ∷ xs) file start before other k hb ho fit good e =
     ∙ also-answers _ (coordinate-back file start before x rest hb (fit 0) (g .0) e)
     ∙ also-answers _ (coordinates-back xs file (start + length (writtenOf z)) other p (suc k) ho hp (λ i. fit (suc i)) (g .1) (n .1))
 
--- ---- a coordinate that was read
-record Coordinated (file : List ℕ) (start before : ℕ) (c : Coordinate) : Type 0 where
-  good : acceptedOf (c .value) ≡ true
-  bits : toBits binary64 (c .value) ≡ c .pattern
-  below : c .pattern < 2 ^ 64
-  same : drop start file ≡ writtenOf (storedOf (c .pattern) before) ++ drop (c .next) file
-
-coordinate-taken : (file : List ℕ) (start before : ℕ) (c : Coordinate) → Bytes file → before < 2 ^ 64
-    → coordinateOf file start before ≡ answers c
-    → Coordinated file start before c
-unfolding coordinateOf judgedOf
-coordinate-taken file start before c all hb e =
-    let a = also-answered (numberOf file start) _ e in
-    let m = a .0 in
-    let n = number-read file start m all (a .1) in
-    let p = restoredOf (m .value) before in
-    let hp : p < 2 ^ 64 = restored-below (m .value) before in
-    let g = require-answered (acceptedOf (ofBits binary64 p)) notAccepted start _ (a .2) in
-    let is : record { value = ofBits binary64 p; pattern = p; next = m .next } ≡ c = cc (g .1) in
-    subst (Coordinated file start before) is (record {
-      good = g .0;
-      bits = toBits-ofBits binary64 p hp (accepted-number (ofBits binary64 p) (g .0));
-      below = hp;
-      same = n .same ∙ ap (λ (z : ℕ). writtenOf z ++ drop (m .next) file) (sym (stored-restored (m .value) before (n .below) hb));
-    })
-
--- coordinates that were read: n of them, accepted, and their bytes are the rest of the file
+-- ---- coordinates that were read
+-- n of them, accepted, and their bytes are the rest of the file
 record Decoded (file : List ℕ) (start before other n : ℕ) (points : List Float) : Type 0 where
   many : length points ≡ n
   good : (k : ℕ) → acceptedFrom k points ≡ answers tt

@@ -11,11 +11,11 @@ use lib.ListN.{length}
 use lib.Ieee.{Float}
 use Rattle.refusal.specs.Outcome.{Outcome, answers, refuses, bytesAfter}
 use Rattle.refusal.specs.Judged.{require, also}
-use Rattle.track.specs.Coordinate.{coordinateOf}
+use Rattle.coordinate.specs.Coordinate.{coordinateOf}
 use Rattle.track.specs.Scan.{Scan, coordinateThen, scanFrom, values, offsetAfter, patternAfter}
 use Rattle.track.specs.Read.{coordinatesOf}
-use Rattle.track.specs.declared.coordinate.Coordinate.{Coordinate}
-use Rattle.track.proofs.Laws.Coordinate.{isCoordinates, coordinate-refusal}
+use Rattle.coordinate.specs.declared.answer.Coordinate.{Coordinate}
+use Rattle.coordinate.proofs.Laws.Coordinate.{isCoordinates, coordinate-refusal}
 
 -- ---- turn by turn
 module _ (bytes : List ℕ) (start before other : ℕ) where

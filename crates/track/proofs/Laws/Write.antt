@@ -15,15 +15,15 @@ use Rattle.refusal.proofs.Laws.Outcome.{refuses-once}
 use Rattle.refusal.specs.Search.{passingFrom}
 use Rattle.point.specs.Accepted.{acceptedOf}
 use Rattle.refusal.specs.Judged.{require, also, filled}
-use Rattle.track.specs.Number.{writtenOf}
-use Rattle.track.specs.Difference.{storedOf}
+use Rattle.number.specs.Number.{writtenOf}
+use Rattle.coordinate.specs.Difference.{storedOf}
 use Rattle.track.specs.File.{limit, coordinateBytes, fileOf}
 use Rattle.track.specs.Write.{acceptedFrom, writeOf, said, WriteSays, AllAccepted}
 use Rattle.track.specs.Parts.{measureOf}
 use Rattle.track.specs.declared.answer.Writing.{Writing}
 use Rattle.track.specs.declared.answer.Writing.the-variants.{Length, Refused}
 use Rattle.refusal.proofs.Laws.Judged.{also-answers, also-refuses, require-holds, require-fails, require-answered}
-use Rattle.track.proofs.Laws.Written.{written-length}
+use Rattle.number.proofs.Laws.Written.{written-length}
 use Rattle.track.proofs.Laws.File.{bytes-more, bytes-end}
 
 -- ---- accepted coordinates

@@ -3,13 +3,13 @@ use mathlib.Core.Path.{_≡_, sym, ap, subst, _∙_}
 use lib.Dec.{T}
 use borrow.Author.Needs.{needs}
 use Rattle.point.specs.Accepted.{reach}
+use Rattle.point.proofs.Laws.Within.{Within, accepted-within}
+use Rattle.point.specs.Spot.{spotOf}
 use Rattle.sum.specs.Total.{signNumber}
 use Rattle.sum.specs.declared.answer.Sign.{Sign}
 use Rattle.ground.specs.Compare.{isZero}
 use Rattle.ground.specs.Edge.{edge, onEdge}
-use Rattle.geometry.proofs.Laws.Product.{Within, accepted-within}
 use Rattle.geometry.proofs.Laws.Side.{turn-said-sign}
-use Rattle.geometry.specs.Spot.{spotOf}
 use Rattle.geometry.proofs.Laws.Worths.{within-point}
 use Rattle.geometry.proofs.Laws.Edges.{edge-met}
 use Rattle.geometry.proofs.edges.meets.Statement.{statement}

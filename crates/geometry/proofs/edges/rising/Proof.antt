@@ -4,15 +4,15 @@ use mathlib.Core.Bool.{cond}
 use lib.Dec.{T}
 use borrow.Author.Needs.{needs}
 use Rattle.point.specs.Accepted.{reach}
+use Rattle.point.proofs.Laws.Within.{Within, accepted-within}
+use Rattle.point.specs.Spot.{spotOf}
 use Rattle.sum.specs.Total.{signNumber}
 use Rattle.sum.specs.declared.answer.Sign.{Sign}
 use Rattle.ground.specs.Compare.{isPositive}
 use Rattle.ground.specs.Edge.{edge}
 use Rattle.geometry.specs.Parts.{crossingOf}
 use Rattle.geometry.specs.declared.edges.Crossing.the-variants.{None, Up}
-use Rattle.geometry.proofs.Laws.Product.{Within, accepted-within}
 use Rattle.geometry.proofs.Laws.Side.{turn-said-sign}
-use Rattle.geometry.specs.Spot.{spotOf}
 use Rattle.geometry.proofs.Laws.Worths.{within-point}
 use Rattle.geometry.proofs.Laws.Edges.{crossing-rising}
 use Rattle.geometry.proofs.edges.rising.Statement.{statement}

@@ -6,10 +6,11 @@ use lib.Dec.{T, lit≤}
 use lib.Ieee.{Float}
 use Rattle.double.proofs.Laws.Roundoff.{factors-reach}
 use Rattle.point.specs.Accepted.{reach}
+use Rattle.point.proofs.Laws.Within.{Within, accepted-within}
 use Rattle.geometry.specs.Product.{pairOf, summandsOf}
 use Rattle.geometry.specs.Parts.{ExactProduct}
 use Rattle.geometry.specs.declared.product.Product.{Product}
-use Rattle.geometry.proofs.Laws.Product.{Within, accepted-within, reach-neg}
+use Rattle.geometry.proofs.Laws.Product.{reach-neg}
 use Rattle.geometry.proofs.product.summands.Statement.{statement}
 use Rattle.geometry.proofs.product.summands.Tie as tie
 use Rattle.geometry.proofs.product.summands.Reads as reads

@@ -4,8 +4,8 @@ use mathlib.Core.Path.{_≡_, ap, _∙_}
 use mathlib.Core.Bool.{true}
 use borrow.Author.Needs.{needs}
 use Rattle.refusal.specs.Outcome.{answers}
-use Rattle.point.specs.Accepted.{acceptedOf}
-use Rattle.geometry.specs.Side.{said, Turned, Accepted}
+use Rattle.point.specs.Accepted.{acceptedOf, Accepted}
+use Rattle.geometry.specs.Side.{said, Turned}
 use Rattle.geometry.proofs.Laws.Side.{refused-by, passed-by, side-px, side-py, side-qx, side-qy, side-rx, side-ry, side-turn}
 use Rattle.geometry.proofs.sides.side.Statement.{statement}
 use Rattle.geometry.proofs.sides.side.Tie as tie

@@ -3,7 +3,7 @@ use mathlib.Core.Path.{sym, subst}
 use lib.Dec.{T}
 use borrow.Author.Needs.{needs}
 use Rattle.point.specs.Accepted.{reach}
-use Rattle.geometry.proofs.Laws.Product.{Within, accepted-within}
+use Rattle.point.proofs.Laws.Within.{Within, accepted-within}
 use Rattle.geometry.proofs.Laws.Exact.{exact-refused, exact-undecided, exact-decided}
 use Rattle.geometry.proofs.turning.exact.Statement.{statement}
 use Rattle.geometry.proofs.turning.exact.Tie as tie

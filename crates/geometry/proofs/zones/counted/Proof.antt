@@ -4,13 +4,13 @@ use mathlib.Core.Path.{_≡_, sym, ap, ap₂, subst, _∙_}
 use native.Mathlib.Omega.{arith}
 use lib.ListN.{drop}
 use borrow.Author.Needs.{needs}
-use Rattle.geometry.specs.Side.{Accepted}
+use Rattle.point.specs.Accepted.{Accepted}
+use Rattle.point.specs.Spot.{spotOf}
 use Rattle.geometry.specs.Zone.{cornersOf, cornerAt, nextOf}
 use Rattle.ground.specs.Edge.{edge, edgesOf, isUp, isDown}
 use Rattle.geometry.specs.Parts.{crossingOf}
 use Rattle.geometry.specs.Parts.{withEdge, countsOf}
 use Rattle.geometry.specs.declared.zones.Counts.{Counts}
-use Rattle.geometry.specs.Spot.{spotOf}
 use Rattle.geometry.proofs.Laws.Zone.{next-inside, counts-end, counts-before, count-few}
 use Rattle.geometry.proofs.zones.counted.Statement.{statement}
 use Rattle.geometry.proofs.zones.counted.Tie as tie

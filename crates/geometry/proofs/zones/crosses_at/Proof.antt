@@ -6,9 +6,9 @@ use mathlib.Core.Bool.{Bool}
 use lib.Ieee.{Float, le, lt}
 use borrow.Author.Needs.{needs}
 use Rattle.point.specs.declared.Point.{Point}
+use Rattle.point.specs.Spot.{spotOf}
 use Rattle.geometry.specs.Zone.{cornerAt}
 use Rattle.ground.specs.Edge.{edge}
-use Rattle.geometry.specs.Spot.{spotOf}
 use Rattle.geometry.specs.Parts.{Rises, Falls, crossingOf}
 use Rattle.geometry.proofs.Laws.Worths.{RealPoint, accepted-point}
 use Rattle.geometry.proofs.Laws.Edges.{crossing-under, crossing-over}

@@ -7,9 +7,9 @@ use lib.Ieee.{Float}
 use borrow.Author.Needs.{needs}
 use borrow.Author.Tests.{not-true, not-false}
 use Rattle.point.specs.declared.Point.{Point}
+use Rattle.point.specs.Spot.{spotOf}
 use Rattle.geometry.specs.Zone.{cornerAt}
 use Rattle.ground.specs.Edge.{edge, onEdge}
-use Rattle.geometry.specs.Spot.{spotOf}
 use Rattle.geometry.specs.Parts.{liesBetween, InBox}
 use Rattle.geometry.proofs.Laws.Worths.{RealPoint, accepted-point}
 use Rattle.geometry.proofs.Laws.Edges.{edge-apart-x, edge-apart-y}

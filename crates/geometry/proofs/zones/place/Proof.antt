@@ -4,12 +4,12 @@ use mathlib.Core.Path.{_≡_, sym, ap, subst, _∙_}
 use mathlib.Core.Logic.{inl, inr}
 use native.Mathlib.Omega.{arith}
 use borrow.Author.Needs.{needs}
-use Rattle.geometry.specs.Side.{Accepted}
+use Rattle.point.specs.Accepted.{Accepted}
+use Rattle.point.specs.Spot.{spotOf}
 use Rattle.geometry.specs.Zone.{placeIn, cornersOf, cornerAt, nextOf, placeSaid}
 use Rattle.ground.specs.Edge.{edge, edgesOf, onEdge, isUp, isDown}
 use Rattle.ground.specs.Zone.{border}
 use Rattle.geometry.specs.declared.zones.Counts.{Counts}
-use Rattle.geometry.specs.Spot.{spotOf}
 use Rattle.geometry.proofs.Laws.Zone.{next-inside, count-few, offOf, walkFrom, walk-start, walk-here, walk-later, walk-end}
 use Rattle.geometry.proofs.Laws.Zone.{off-inside, off-outside}
 use Rattle.geometry.proofs.zones.place.Statement.{statement}

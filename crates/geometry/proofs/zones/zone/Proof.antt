@@ -2,7 +2,6 @@
 use mathlib.Core.Path.{sym, ap, _∙_}
 use borrow.Author.Needs.{needs}
 use borrow.Author.Tests.{not-true, not-false}
-use Rattle.geometry.specs.Side.{Accepted}
 use Rattle.geometry.specs.Zone.{zoneSaid}
 use Rattle.geometry.specs.Parts.{faultSaid}
 use Rattle.geometry.proofs.Laws.Zone.{zone-odd, zone-small, zone-large, zone-x, zone-y, zone-corner, zone-place, zone-zoned}
@@ -14,6 +13,7 @@ use Rattle.geometry.proofs.zones.corner_fault.Reads as corner-fault-rea
 use Rattle.geometry.proofs.zones.place.Reads as place-reads
 use Rattle.geometry.proofs.zones.refused.Reads as refused-reads
 use Rattle.point.proofs.accepted.Reads as accepted-reads
+use Rattle.point.specs.Accepted.{Accepted}
 
 -- the point is accepted
 accepts : (c : tie.After-corner-fault) → Accepted (c .before .before .before .before .before .before .before .before .before .args .p)

@@ -3,7 +3,7 @@ use Prim.Native.Nat.{_-_}
 use native.Mathlib.Omega.{arith}
 use lib.ListN.{length}
 use borrow.Author.Needs.{needs}
-use Rattle.serve.proofs.Laws.Text.{Putting, putting-start, putting-kept, putting-turn, putting-done}
+use Rattle.serve.proofs.Laws.Text.{Putting, putting-start, putting-turn, putting-done}
 use Rattle.serve.proofs.text.put.Statement.{statement}
 use Rattle.serve.proofs.text.put.Tie as tie
 
@@ -20,12 +20,10 @@ shared-slice-read-out : tie.Need-shared-slice-read-out Inv-loop μ-loop
 shared-slice-read-out c = search needs
 
 add-out : tie.Need-add-out Inv-loop μ-loop
-add-out c = omega (arith, c .before .before .before .pre)
+add-out c = omega (arith, c .before .before .before .pre .0)
 
-slice-write-out : tie.Need-slice-write-out Inv-loop μ-loop
-slice-write-out c =
-    let head = c .before .before in
-    omega (arith, putting-kept _ _ _ (head .before .pre) _ _ (head .loop .inv))
+element-write-out : tie.Need-element-write-out Inv-loop μ-loop
+element-write-out c = omega (arith, c .before .before .before .pre .0)
 
 add-i : tie.Need-add-i Inv-loop μ-loop
 add-i c = search needs
@@ -39,10 +37,7 @@ loop-again c =
     putting-turn _ _ _ (head .before .pre) _ _ (head .loop .inv) (c .before .loop-test .taken)
 
 add-result : tie.Need-add-result Inv-loop μ-loop
-add-result c = omega (arith, c .before .before .pre, c .before .loop .inv .few)
-
-same-length : tie.Need-same-length Inv-loop μ-loop
-same-length c = putting-kept _ _ _ (c .before .before .pre) _ _ (c .before .loop .inv)
+add-result c = omega (arith, c .before .before .pre .0, c .before .loop .inv .few)
 
 returns : tie.Need-returns Inv-loop μ-loop
 returns c = putting-done _ _ _ (c .before .before .pre) _ _ (c .before .loop .inv) (c .loop-test .left)
@@ -56,10 +51,9 @@ put-spec =
     loop-holds
     shared-slice-read-out
     add-out
-    slice-write-out
+    element-write-out
     add-i
     loop-less
     loop-again
     add-result
-    same-length
     returns)

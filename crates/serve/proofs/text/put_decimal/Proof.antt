@@ -20,19 +20,15 @@ slice-aggregate-put c = search needs
 put-requires : tie.Need-put-requires
 put-requires c κs =
     let spelled = c .before .before .decimal .ensures in
-    let most = digits-most (c .before .before .before .before .before .args .value) _ (omega arith) (spelled .1 .0) in
+    let most = digits-most (c .before .before .before .before .args .value) _ (omega arith) (spelled .1 .0) in
     omega (arith, spelled .0 .1)
-
-same-length : tie.Need-same-length
-same-length c = search needs
 
 returns : tie.Need-returns
 returns c =
-    let call = c .before .before in
-    let spelled = call .before .before .before .decimal .ensures in
-    let value = c .before .before .before .before .before .before .before .before .args .value in
+    let spelled = c .before .before .before .decimal .ensures in
+    let value = c .before .before .before .before .before .args .value in
     let most = digits-most value _ (omega arith) (spelled .1 .0) in
-    puts-as 20 (decimal value) (call .put .ensures) (omega (arith, spelled .0 .1, most))
+    puts-as 20 (decimal value) (c .put .ensures) (omega (arith, spelled .0 .1, most))
     (spelled .1 .1 ∙ decimal-digits _ _ (spelled .1 .0))
 
 pub put-decimal-spec : {M : Type 1} → statement M
@@ -43,5 +39,4 @@ put-decimal-spec =
     array-share-prefix-digits
     slice-aggregate-put
     put-requires
-    same-length
     returns)

@@ -19,15 +19,11 @@ slice-aggregate-put-2 c = search needs
 put-requires-2 : tie.Need-put-requires-2
 put-requires-2 c κs = search needs
 
-same-length : tie.Need-same-length
-same-length c = search needs
-
 returns : tie.Need-returns
 returns c =
-    let last = c .before .before in
-    let number = last .before .before .before .before .before in
-    let first = number .before .before .before .before in
-    puts-then (puts-then (first .put .ensures) (number .put-decimal .ensures)) (last .put2 .ensures)
+    let number = c .before .before .before in
+    let first = number .before .before in
+    puts-then (puts-then (first .put .ensures) (number .put-decimal .ensures)) (c .put2 .ensures)
 
 pub put-header-spec : {M : Type 1} → statement M
 put-header-spec =
@@ -38,5 +34,4 @@ put-header-spec =
     put-decimal-requires
     slice-aggregate-put-2
     put-requires-2
-    same-length
     returns)

@@ -10,13 +10,8 @@ put-decimal-requires c κs = search needs
 put-place-requires : tie.Need-put-place-requires
 put-place-requires c κs = search needs
 
-same-length : tie.Need-same-length
-same-length c = search needs
-
 returns : tie.Need-returns
-returns c =
-    let last = c .before .before in
-    puts-then (last .before .before .before .before .put-decimal .ensures) (last .put-place .ensures)
+returns c = puts-then (c .before .before .put-decimal .ensures) (c .put-place .ensures)
 
 pub put-line-spec : {M : Type 1} → statement M
-put-line-spec = tie.close (tie.spec put-decimal-requires put-place-requires same-length returns)
+put-line-spec = tie.close (tie.spec put-decimal-requires put-place-requires returns)

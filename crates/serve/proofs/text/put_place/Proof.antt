@@ -25,31 +25,22 @@ slice-aggregate-put-3 c = search needs
 put-requires-3 : tie.Need-put-requires-3
 put-requires-3 c κs = search needs
 
-same-length : tie.Need-same-length
-same-length c = search needs
-
 returns : tie.Need-returns
 returns c =
-    let start = c .before .before .before .before .before in
-    puts-as 9 (placeText (start .before .before .args .place)) (c .before .before .put .ensures) (omega arith)
+    let start = c .before .before .before in
+    puts-as 9 (placeText (start .before .args .place)) (c .put .ensures) (omega arith)
     (ap placeText (sym (start .match .keys1)))
-
-same-length-2 : tie.Need-same-length-2
-same-length-2 c = search needs
 
 returns-2 : tie.Need-returns-2
 returns-2 c =
-    let start = c .before .before .before .before .before in
-    puts-as 9 (placeText (start .before .before .args .place)) (c .before .before .put2 .ensures) (omega arith)
+    let start = c .before .before .before in
+    puts-as 9 (placeText (start .before .args .place)) (c .put2 .ensures) (omega arith)
     (ap placeText (sym (start .match .keys2)))
-
-same-length-3 : tie.Need-same-length-3
-same-length-3 c = search needs
 
 returns-3 : tie.Need-returns-3
 returns-3 c =
-    let start = c .before .before .before .before .before in
-    puts-as 9 (placeText (start .before .before .args .place)) (c .before .before .put3 .ensures) (omega arith)
+    let start = c .before .before .before in
+    puts-as 9 (placeText (start .before .args .place)) (c .put3 .ensures) (omega arith)
     (place-inside _ (start .match .rest .0 .1) (start .match .rest .1))
 
 pub put-place-spec : {M : Type 1} → statement M
@@ -62,9 +53,6 @@ put-place-spec =
     put-requires-2
     slice-aggregate-put-3
     put-requires-3
-    same-length
     returns
-    same-length-2
     returns-2
-    same-length-3
     returns-3)

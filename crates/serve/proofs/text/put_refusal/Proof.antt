@@ -28,20 +28,17 @@ slice-aggregate-put-2 c = search needs
 put-requires-3 : tie.Need-put-requires-3
 put-requires-3 c κs = search needs
 
-same-length : tie.Need-same-length
-same-length c = search needs
-
 returns : tie.Need-returns
 returns c =
-    let last = c .before .before in
-    let place = last .before .before .before .before .before in
-    let space = place .before .before .before .before in
-    let number = space .before .before .before .before .before in
-    let words = number .before .before .before .before in
+    let place = c .before .before .before in
+    let space = place .before .before in
+    let number = space .before .before .before in
+    let words = number .before .before in
     let numbered = puts-then (words .put .ensures) (number .put-decimal .ensures) in
     let spaced = puts-then numbered (space .put2 .ensures) in
     let placed = puts-then spaced (place .put-decimal2 .ensures) in
-    puts-then placed (last .put3 .ensures) .stands
+    let all = puts-then placed (c .put3 .ensures) in
+    (all .stands, all .kept)
 
 pub put-refusal-spec : {M : Type 1} → statement M
 put-refusal-spec =
@@ -55,5 +52,4 @@ put-refusal-spec =
     put-decimal-requires-2
     slice-aggregate-put-2
     put-requires-3
-    same-length
     returns)

@@ -1,5 +1,6 @@
 -- `serve::text::put_releases` meets its contract. The loop's invariant: the header and i lines stand. Assumes nothing.
 use Prim.Native.Nat.{_-_}
+use mathlib.Core.Path.{_∙_}
 use lib.ListN.{length}
 use borrow.Author.Needs.{needs}
 use Rattle.serve.proofs.Laws.Text.{Writing, writing-start, writing-turn, writing-done}
@@ -16,7 +17,7 @@ put-header-requires : tie.Need-put-header-requires Inv-loop μ-loop
 put-header-requires c κs = search needs
 
 loop-holds : tie.Need-loop-holds Inv-loop μ-loop
-loop-holds c = writing-start _ _ _ _ (c .before .before .put-header .ensures)
+loop-holds c = writing-start _ _ _ _ (c .put-header .ensures)
 
 add-put-line : tie.Need-add-put-line Inv-loop μ-loop
 add-put-line c = search needs
@@ -35,15 +36,13 @@ loop-less c = search needs
 
 loop-again : tie.Need-loop-again Inv-loop μ-loop
 loop-again c =
-    let call = c .before .before in
-    let turn = call .before .before .before in
-    writing-turn _ _ _ _ _ (turn .before .loop .inv) (turn .loop-test .taken) _ _ (call .put-line .ensures)
-
-same-length : tie.Need-same-length Inv-loop μ-loop
-same-length c = search needs
+    let turn = c .before .before .before in
+    writing-turn _ _ _ _ _ (turn .before .loop .inv) (turn .loop-test .taken) _ _ (c .put-line .ensures)
 
 returns : tie.Need-returns Inv-loop μ-loop
-returns c = writing-done _ _ _ _ _ (c .before .loop .inv) (c .loop-test .left)
+returns c =
+    let written = c .before .loop .inv in
+    (writing-done _ _ _ _ _ written (c .loop-test .left), written .kept ∙ c .before .before .put-header .ensures .kept)
 
 pub put-releases-spec : {M : Type 1} → statement M
 put-releases-spec =
@@ -59,5 +58,4 @@ put-releases-spec =
     add-i
     loop-less
     loop-again
-    same-length
     returns)

@@ -26,23 +26,19 @@ enum-told c = search needs
 text-without-requires : tie.Need-text-without-requires
 text-without-requires c κs = search needs
 
-same-length : tie.Need-same-length
-same-length c = search needs
-
 returns : tie.Need-returns
 returns c =
-    let call = c .before .before in
-    let read = call .before .before in
-    call .text-of-report .ensures ∙ report-printed _ _
-    ∙ ap (printed _) (bytes-found _ _ _ _ (read .before .before .releases .given .1) (read .first .ensures))
-
-same-length-2 : tie.Need-same-length-2
-same-length-2 c = search needs
+    let read = c .before .before in (
+      c .text-of-report .ensures .0 ∙ report-printed _ _
+          ∙ ap (printed _) (bytes-found _ _ _ _ (read .before .before .releases .given .1) (read .first .ensures)),
+      c .text-of-report .ensures .1,
+    )
 
 returns-2 : tie.Need-returns-2
-returns-2 c =
-    let call = c .before .before in
-    call .text-without .ensures ∙ ap (printed _) (nothing-found _ _ (call .before .before .enum-told .given .1))
+returns-2 c = (
+  c .text-without .ensures .0 ∙ ap (printed _) (nothing-found _ _ (c .before .before .enum-told .given .1)),
+  c .text-without .ensures .1,
+)
 
 pub text-in-spec : {M : Type 1} → statement M
 text-in-spec =
@@ -53,7 +49,5 @@ text-in-spec =
     text-of-report-requires
     enum-told
     text-without-requires
-    same-length
     returns
-    same-length-2
     returns-2)

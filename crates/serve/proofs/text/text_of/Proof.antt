@@ -28,24 +28,20 @@ slice-aggregate-put c = search needs
 put-requires : tie.Need-put-requires
 put-requires c κs = search needs
 
-same-length : tie.Need-same-length
-same-length c = search needs
-
 returns : tie.Need-returns
 returns c =
-    let call = c .before .before in
-    let read = call .before .before in
-    call .text-in .ensures
-    ∙ zone-same _ _ _ (bytes-found _ _ _ _ (read .before .before .zone .given .1) (read .first .ensures))
-
-same-length-2 : tie.Need-same-length-2
-same-length-2 c = search needs
+    let read = c .before .before in (
+      c .text-in .ensures .0
+          ∙ zone-same _ _ _ (bytes-found _ _ _ _ (read .before .before .zone .given .1) (read .first .ensures)),
+      c .text-in .ensures .1,
+    )
 
 returns-2 : tie.Need-returns-2
-returns-2 c =
-    let call = c .before .before in
-    call .put .ensures .stands ∙ zone-unreadable _
-    ∙ zone-same _ _ _ (nothing-found _ _ (call .before .before .before .enum-told .given .1))
+returns-2 c = (
+  c .put .ensures .stands ∙ zone-unreadable _
+      ∙ zone-same _ _ _ (nothing-found _ _ (c .before .before .before .enum-told .given .1)),
+  c .put .ensures .kept,
+)
 
 pub text-of-spec : {M : Type 1} → statement M
 text-of-spec =
@@ -57,7 +53,5 @@ text-of-spec =
     enum-told
     slice-aggregate-put
     put-requires
-    same-length
     returns
-    same-length-2
     returns-2)

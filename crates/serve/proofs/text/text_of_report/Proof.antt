@@ -62,35 +62,29 @@ slice-aggregate-put-refusal-2 c = search needs
 put-refusal-requires-2 : tie.Need-put-refusal-requires-2
 put-refusal-requires-2 c κs = search needs
 
-same-length : tie.Need-same-length
-same-length c = search needs
-
 returns : tie.Need-returns
 returns c =
-    let call = c .before .before in
-    let known = call .before .before .before .before in
-    let report = known .before .before .before .report in
-    call .put-releases .ensures ∙ report-releases _ _ _ _ _ room (report .ensures) _ (known .n .given .1)
-
-same-length-2 : tie.Need-same-length-2
-same-length-2 c = search needs
+    let known = c .before .before .before .before in
+    let report = known .before .before .before .report in (
+      c .put-releases .ensures .0 ∙ report-releases _ _ _ _ _ room (report .ensures) _ (known .n .given .1),
+      c .put-releases .ensures .1,
+    )
 
 returns-2 : tie.Need-returns-2
 returns-2 c =
-    let call = c .before .before in
-    let known = call .before .before .before .before in
-    let report = known .before .before .before .report in
-    call .put-refusal .ensures ∙ report-refused-zone _ _ _ _ _ room (report .ensures) _ (known .r .given .1)
-
-same-length-3 : tie.Need-same-length-3
-same-length-3 c = search needs
+    let known = c .before .before .before .before in
+    let report = known .before .before .before .report in (
+      c .put-refusal .ensures .0 ∙ report-refused-zone _ _ _ _ _ room (report .ensures) _ (known .r .given .1),
+      c .put-refusal .ensures .1,
+    )
 
 returns-3 : tie.Need-returns-3
 returns-3 c =
-    let call = c .before .before in
-    let known = call .before .before .before .before in
-    let report = known .before .before .before .report in
-    call .put-refusal2 .ensures ∙ report-refused-releases _ _ _ _ _ room (report .ensures) _ (known .r2 .given .1)
+    let known = c .before .before .before .before in
+    let report = known .before .before .before .report in (
+      c .put-refusal2 .ensures .0 ∙ report-refused-releases _ _ _ _ _ room (report .ensures) _ (known .r2 .given .1),
+      c .put-refusal2 .ensures .1,
+    )
 
 pub text-of-report-spec : {M : Type 1} → statement M
 text-of-report-spec =
@@ -108,9 +102,6 @@ text-of-report-spec =
     enum-known-r-2
     slice-aggregate-put-refusal-2
     put-refusal-requires-2
-    same-length
     returns
-    same-length-2
     returns-2
-    same-length-3
     returns-3)

@@ -31,23 +31,19 @@ slice-aggregate-put-refusal c = search needs
 put-refusal-requires : tie.Need-put-refusal-requires
 put-refusal-requires c κs = search needs
 
-same-length : tie.Need-same-length
-same-length c = search needs
-
 returns : tie.Need-returns
 returns c =
-    let call = c .before .before in
-    let known = call .before .before .before in
-    call .put .ensures .stands ∙ corners-printed _ _ (known .before .before .judge .ensures) _ (known .enum-told .given .1)
-
-same-length-2 : tie.Need-same-length-2
-same-length-2 c = search needs
+    let known = c .before .before .before in (
+      c .put .ensures .stands ∙ corners-printed _ _ (known .before .before .judge .ensures) _ (known .enum-told .given .1),
+      c .put .ensures .kept,
+    )
 
 returns-2 : tie.Need-returns-2
 returns-2 c =
-    let call = c .before .before in
-    let known = call .before .before .before .before in
-    call .put-refusal .ensures ∙ refused-printed _ _ (known .before .before .judge .ensures) _ (known .r .given .1) _
+    let known = c .before .before .before .before in (
+      c .put-refusal .ensures .0 ∙ refused-printed _ _ (known .before .before .judge .ensures) _ (known .r .given .1) _,
+      c .put-refusal .ensures .1,
+    )
 
 pub text-without-spec : {M : Type 1} → statement M
 text-without-spec =
@@ -60,7 +56,5 @@ text-without-spec =
     enum-known-r
     slice-aggregate-put-refusal
     put-refusal-requires
-    same-length
     returns
-    same-length-2
     returns-2)

@@ -1,12 +1,13 @@
 -- `sum::words::sign_of` meets its contract.
-use Rattle.sum.proofs.Laws.Words.{Below, value-next, held-below, held-minus, held-plus, held-zero}
+use Rattle.total.proofs.Laws.Words.{Below}
+use Rattle.sum.proofs.Laws.Words.{value-next, held-below, held-minus, held-plus, held-zero}
 use mathlib.Core.Path.{_∙_}
 use Prim.Native.Nat.{_-_, _*_, _^_, _≤_}
 use mathlib.Core.Path.{_≡_}
 use lib.ListN.{drop}
 use native.Mathlib.Omega.{arith}
 use borrow.Author.Needs.{needs}
-use Rattle.sum.specs.Words.{base, count, valueOf}
+use Rattle.total.specs.Words.{base, count, valueOf}
 use Rattle.sum.proofs.words.sign_of.Statement.{statement}
 use Rattle.sum.proofs.words.sign_of.Tie as tie
 use Rattle.sum.proofs.words.sign_of.Reads as reads

@@ -2,7 +2,7 @@
 use Prim.Native.Nat.{_-_}
 use mathlib.Core.Path.{sym, ap, _∙_}
 use native.Mathlib.Omega.{arith}
-use Rattle.track.specs.Coordinate.{heard}
+use Rattle.coordinate.specs.Coordinate.{heard}
 use Rattle.track.proofs.Laws.Read.{Decoding, decoding-start, decoding-turn, decoding-refused, decoding-after, decoding-whole}
 use borrow.Author.Needs.{needs}
 use Rattle.track.proofs.reader.decode.Statement.{statement}

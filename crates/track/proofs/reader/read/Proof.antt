@@ -1,6 +1,6 @@
 -- `track::reader::read` meets its contract: by what the count is. Assumes nothing.
 use mathlib.Core.Path.{refl, sym, ap, _∙_}
-use Rattle.track.specs.Number.{heard}
+use Rattle.number.specs.Number.{heard}
 use Rattle.track.proofs.Laws.Read.{says-refused, says-counted}
 use borrow.Author.Needs.{needs}
 use Rattle.track.proofs.reader.read.Statement.{statement}

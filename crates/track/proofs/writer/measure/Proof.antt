@@ -4,9 +4,9 @@ use mathlib.Core.Path.{sym, ap, _∙_}
 use native.Mathlib.Omega.{arith}
 use borrow.Author.Tests.{not-true, not-false}
 use lib.ListN.{length}
-use Rattle.track.specs.Number.{writtenOf}
-use Rattle.track.proofs.Laws.Written.{written-length}
-use Rattle.track.proofs.Laws.Coordinate.{accepted-number}
+use Rattle.number.specs.Number.{writtenOf}
+use Rattle.number.proofs.Laws.Written.{written-length}
+use Rattle.coordinate.proofs.Laws.Coordinate.{accepted-number}
 use Rattle.track.proofs.Laws.Write.{Measuring, measuring-start, measuring-turn, measuring-refused, measuring-done}
 use borrow.Author.Needs.{needs}
 use Rattle.track.proofs.writer.measure.Statement.{statement}

@@ -2,7 +2,7 @@
 use Prim.Native.Nat.{_-_}
 use lib.ListN.{length}
 use lib.Ieee.{nan}
-use Rattle.track.proofs.Laws.Coordinate.{accepted-number}
+use Rattle.coordinate.proofs.Laws.Coordinate.{accepted-number}
 use Rattle.track.proofs.Laws.File.{Putting, putting-start, putting-within, putting-turn, putting-done}
 use borrow.Author.Needs.{needs}
 use Rattle.track.proofs.writer.put_points.Statement.{statement}

@@ -9,7 +9,7 @@ use Rattle.refusal.specs.Outcome.{answers}
 use Rattle.track.specs.File.{coordinateBytes, fileOf}
 use Rattle.track.specs.Write.{acceptedFrom}
 use Rattle.track.specs.Parts.{measured}
-use Rattle.track.proofs.Laws.Written.{written-length}
+use Rattle.number.proofs.Laws.Written.{written-length}
 use Rattle.track.proofs.Laws.File.{bytes-length, file-total, file-put}
 use Rattle.track.proofs.Laws.Write.{
   accepted-all,

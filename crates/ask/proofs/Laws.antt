@@ -1,2 +1,0 @@
--- What is known of a question's numbers.
-pub mod Numeral

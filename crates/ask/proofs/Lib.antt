@@ -1,2 +1,0 @@
--- The hand-written modules of this crate that belong to no one function.
-mod Laws

@@ -1,2 +1,0 @@
--- What the line tool reads as a number.
-pub mod Numeral

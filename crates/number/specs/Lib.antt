@@ -1,0 +1,2 @@
+-- What a reader must believe of a number of a track file.
+pub mod Number
