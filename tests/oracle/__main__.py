@@ -1,9 +1,10 @@
-"""The second program: an independent reading of 01 in big integers, over the lines of ask.
+"""The second program: an independent reading of 01 and 02 in big integers, over the lines of ask.
 
 python3 tests/oracle reads questions from standard input and writes an answer line for each. This
-file has the lines and the table of known words; each section of 01 is a file of its own, whose
-functions take the words after the first and give the answer. They read all their words before
-they refuse anything, since a line that is not of a known form is unclear whatever it holds.
+file has the lines and the table of known words; each section of 01, and each request of 02 that has
+a word, is a file of its own, whose functions take the words after the first and give the answer. They
+read all their words before they refuse anything, since a line that is not of a known form is unclear
+whatever it holds.
 
 What the protocol leaves to its words, as read here:
 - only a line feed ends a line, and every answer has one, also that to a last line without it;
@@ -20,6 +21,7 @@ What the protocol leaves to its words, as read here:
 import sys
 
 import doubles
+import planes
 import sides
 import sums
 import tracks
@@ -34,6 +36,7 @@ ANSWERS = {
     b"plain": sums.answer_plain,
     b"side": sides.answer_side,
     b"zone": zones.answer_zone,
+    b"plane": planes.answer_plane,
     b"write": tracks.answer_write,
     b"read": tracks.answer_read,
 }

@@ -3,12 +3,12 @@
 All from the fields of its 64-bit pattern, in integers only.
 """
 
+from rounding import UNIT
 from words import Refused, Unclear, read_double
 
 FRACTION_BITS = 52
 SPECIAL_FIELD = 2047  # the exponent field of infinities and NaNs
-LEAST_COORDINATE = 2 ** (1074 - 400)  # in units
-LARGEST_COORDINATE = 2 ** (1074 + 400)
+REACH = 400  # of coordinates: they are from 2^-400 to 2^400
 
 
 def is_finite(pattern):
@@ -55,17 +55,17 @@ def sign_of(number):
     return (number > 0) - (number < 0)
 
 
-def is_coordinate(pattern):
-    """A zero, or of a magnitude from 2^-400 to 2^400."""
+def is_coordinate(pattern, reach=REACH):
+    """A zero, or of a magnitude from 2^-reach to 2^reach."""
     if not is_finite(pattern):
         return False
     magnitude = abs(units(pattern))
-    return magnitude == 0 or LEAST_COORDINATE <= magnitude <= LARGEST_COORDINATE
+    return magnitude == 0 or 2 ** (UNIT - reach) <= magnitude <= 2 ** (UNIT + reach)
 
 
-def coordinates(patterns):
+def coordinates(patterns, reach=REACH):
     """The values of a list of coordinates, or refusal 3 at the first that is not accepted."""
     for index, pattern in enumerate(patterns):
-        if not is_coordinate(pattern):
+        if not is_coordinate(pattern, reach):
             raise Refused(3, index)
     return [units(pattern) for pattern in patterns]

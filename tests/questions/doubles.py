@@ -6,13 +6,17 @@ import struct
 FRACTION_BITS = 52
 SIGN = 1 << 63
 INFINITY = 2047 << FRACTION_BITS
-ONE = 1023 << FRACTION_BITS
-LARGEST_COORDINATE = 1023 + 400 << FRACTION_BITS  # 2^400
-LEAST_COORDINATE = 1023 - 400 << FRACTION_BITS  # 2^-400
+REACH = 400  # of coordinates: they are from 2^-400 to 2^400
+
+
+def power_of_two(exponent):
+    """The pattern of a power of two that is a normal double."""
+    return 1023 + exponent << FRACTION_BITS
+
 
 # Each is asked with the patterns next to it. With them come the least and greatest subnormal
 # (after 0, before the least normal), the largest finite and the least NaN (around infinity).
-TURNING_POINTS = (1 << FRACTION_BITS, LEAST_COORDINATE, ONE, LARGEST_COORDINATE, INFINITY)
+TURNING_POINTS = (1 << FRACTION_BITS, power_of_two(-REACH), power_of_two(0), power_of_two(REACH), INFINITY)
 
 NOT_FINITE = (INFINITY, SIGN | INFINITY, INFINITY | 1, SIGN - 1, INFINITY | 1 << 51, SIGN | INFINITY | 1 << 51)
 

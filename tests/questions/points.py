@@ -1,40 +1,44 @@
-"""Coordinates and points for the questions side, zone, write and read, as floats."""
+"""Coordinates and points for the questions side, zone, plane, write and read, as floats.
+
+Coordinates are accepted up to a reach: from 2^-reach to 2^reach, or zero.
+"""
 
 import math
 
-from questions.doubles import (
-    LARGEST_COORDINATE, LEAST_COORDINATE, NOT_FINITE, SIGN, any_number, float_of, pattern_of, spelled_list,
-)
-
-# with both signs: infinities and NaNs, subnormals, and the doubles next to the ends of the range
-REFUSED = NOT_FINITE + tuple(
-    sign | magnitude
-    for magnitude in (1, (1 << 52) - 1, 1 << 52, LEAST_COORDINATE - 1, LARGEST_COORDINATE + 1, (2047 << 52) - 1)
-    for sign in (0, SIGN)
-)
-
-# with both signs: zero, and the ends of the range with the doubles next to them inside
-ENDS = tuple(
-    sign * float_of(pattern)
-    for pattern in (0, LEAST_COORDINATE, LEAST_COORDINATE + 1, LARGEST_COORDINATE - 1, LARGEST_COORDINATE)
-    for sign in (1, -1)
-)
+from questions.doubles import NOT_FINITE, REACH, SIGN, any_number, float_of, pattern_of, power_of_two, spelled_list
 
 
-def any_coordinate(random):
+def refused_of(reach):
+    """With both signs: infinities and NaNs, subnormals, and the doubles next to the ends of the range."""
+    least, largest = power_of_two(-reach), power_of_two(reach)
+    outside = (1, (1 << 52) - 1, 1 << 52, least - 1, largest + 1, (2047 << 52) - 1)
+    return NOT_FINITE + tuple(sign | pattern for pattern in outside for sign in (0, SIGN))
+
+
+def ends_of(reach):
+    """With both signs: zero, and the ends of the range with the doubles next to them inside."""
+    least, largest = power_of_two(-reach), power_of_two(reach)
+    inside = (0, least, least + 1, largest - 1, largest)
+    return tuple(sign * float_of(pattern) for pattern in inside for sign in (1, -1))
+
+
+REFUSED, ENDS = refused_of(REACH), ends_of(REACH)
+
+
+def any_coordinate(random, reach=REACH):
     """Of any accepted exponent, one in eight a zero."""
     if random.randrange(8) == 0:
         return random.choice((0.0, -0.0))
-    return any_number(random, -400, 399)
+    return any_number(random, -reach, reach - 1)
 
 
 def any_point(random):
     return any_coordinate(random), any_coordinate(random)
 
 
-def grid_point(random, size):
+def grid_point(random, size, axes=2):
     """Of whole coordinates, so that three of them are often on one line; zeros have either sign."""
-    return tuple(random.choice((-1.0, 1.0)) * random.randint(0, size) for _ in range(2))
+    return tuple(random.choice((-1.0, 1.0)) * random.randint(0, size) for _ in range(axes))
 
 
 def chopped(random, points):
@@ -52,24 +56,24 @@ def with_bits(number, bits):
     return float_of(pattern >> (52 - bits) << (52 - bits))
 
 
-def scaled(random, points):
-    """The points with x and y each times a power of two, which leaves every side as it is."""
-    powers = [any_power(random, [abs(coordinate) for coordinate in axis if coordinate]) for axis in zip(*points)]
+def scaled(random, points, reach=REACH):
+    """The points with each axis times a power of two, which leaves every side as it is."""
+    powers = [any_power(random, [abs(coordinate) for coordinate in axis if coordinate], reach) for axis in zip(*points)]
     return [tuple(map(math.ldexp, point, powers)) for point in points]
 
 
-def any_power(random, magnitudes):
+def any_power(random, magnitudes, reach):
     """A power of two that leaves accepted coordinates in their range; often one that takes them to its end."""
     # frexp has the exponent of the power of two above a number
-    least = -399 - math.frexp(min(magnitudes, default=1.0))[1]
-    greatest = 400 - math.frexp(max(magnitudes, default=1.0))[1]
+    least = 1 - reach - math.frexp(min(magnitudes, default=1.0))[1]
+    greatest = reach - math.frexp(max(magnitudes, default=1.0))[1]
     if least > greatest:
         return 0
     return random.choice((0, least, greatest, random.randint(least, greatest)))
 
 
 def patterns(points):
-    """The patterns of points in turn: x, y, x, y."""
+    """The patterns of points in turn, each x, y and its height if it has one."""
     return [pattern_of(coordinate) for point in points for coordinate in point]
 
 
@@ -78,17 +82,17 @@ def replaced(accepted, place, pattern):
     return accepted[:place] + [pattern] + accepted[place + 1 :]
 
 
-def asked_of(word, random, lists):
+def asked_of(word, random, lists, refused=REFUSED):
     """A line for each list of coordinates, and after one in sixteen the same with refused ones."""
     for accepted in lists:
         yield word + spelled_list(random, accepted)
         if random.randrange(16) == 0:
-            yield word + spelled_list(random, with_refused(random, accepted))
+            yield word + spelled_list(random, with_refused(random, accepted, refused))
 
 
-def with_refused(random, accepted):
+def with_refused(random, accepted, refused=REFUSED):
     """Patterns with refused coordinates in one or two places."""
     changed = accepted
     for _ in range(random.randint(1, 2)):
-        changed = replaced(changed, random.randrange(len(changed)), random.choice(REFUSED))
+        changed = replaced(changed, random.randrange(len(changed)), random.choice(refused))
     return changed

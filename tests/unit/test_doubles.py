@@ -89,14 +89,18 @@ class Units(unittest.TestCase):
 
 class Coordinates(unittest.TestCase):
     def test_ends_of_the_range(self):
-        low, high = pattern_of(2.0**-400), pattern_of(2.0**400)
+        self.check_ends(2.0**-400, 2.0**400, is_coordinate)
+        self.check_ends(2.0**-300, 2.0**300, lambda pattern: is_coordinate(pattern, 300))
+
+    def check_ends(self, least, largest, is_accepted):
+        low, high = pattern_of(least), pattern_of(largest)
         for pattern, accepted in (
             (low, True), (low - 1, False), (low + 1, True), (high, True), (high + 1, False), (high - 1, True),
             (0, True), (1, False), (0x7FF0000000000000, False), (0x7FF8000000000000, False),
         ):
             for signed in (pattern, 1 << 63 | pattern):
                 with self.subTest(hex(signed)):
-                    self.assertEqual(is_coordinate(signed), accepted)
+                    self.assertEqual(is_accepted(signed), accepted)
 
     def test_the_first_refused_place(self):
         with self.assertRaises(Refused) as refusal:

@@ -3,6 +3,7 @@ use crate::held::Bytes;
 use crate::held::List;
 use crate::numbers;
 use crate::part::first;
+use crate::planes;
 use crate::reply;
 use crate::reply::Reply;
 use crate::sides;
@@ -50,6 +51,7 @@ fn looked(word: Word, list: &[f64]) -> Reply {
         Word::Plain => sums::plain(list),
         Word::Side => sides::side(list),
         Word::Zone => sides::zone(list),
+        Word::Plane => planes::plane(list),
         Word::Run | Word::Write | Word::Read => reply::unclear(),
     }
 }

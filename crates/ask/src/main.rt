@@ -4,6 +4,7 @@ mod held;
 mod numbers;
 mod out;
 mod part;
+mod planes;
 mod reply;
 mod sides;
 mod sums;

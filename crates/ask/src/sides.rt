@@ -1,4 +1,4 @@
-// The answers of `geometry`.
+// The answers of `geometry` on sides and zones.
 use crate::reply;
 use crate::reply::Reply;
 use crate::sums::sign_word;

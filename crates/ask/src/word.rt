@@ -11,30 +11,32 @@ pub const SIDE: usize = 4;
 
 pub const ZONE: usize = 5;
 
-pub const WRITE: usize = 6;
+pub const PLANE: usize = 6;
 
-pub const READ: usize = 7;
+pub const WRITE: usize = 7;
 
-pub const REFUSED: usize = 8;
+pub const READ: usize = 8;
 
-pub const UNCLEAR: usize = 9;
+pub const REFUSED: usize = 9;
 
-pub const UNDECIDED: usize = 10;
+pub const UNCLEAR: usize = 10;
 
-pub const OUTSIDE: usize = 11;
+pub const UNDECIDED: usize = 11;
 
-pub const INSIDE: usize = 12;
+pub const OUTSIDE: usize = 12;
 
-pub const BORDER: usize = 13;
+pub const INSIDE: usize = 13;
 
-pub const MINUS: usize = 14;
+pub const BORDER: usize = 14;
 
-pub const ZERO: usize = 15;
+pub const MINUS: usize = 15;
 
-pub const PLUS: usize = 16;
+pub const ZERO: usize = 16;
+
+pub const PLUS: usize = 17;
 
 // No word.
-pub const NONE: usize = 17;
+pub const NONE: usize = 18;
 
 // The most letters of a word.
 pub const LETTERS: usize = 10;
@@ -46,6 +48,7 @@ const ROWS: [[u8; LETTERS]; NONE] = [
     *b"plain     ",
     *b"side      ",
     *b"zone      ",
+    *b"plane     ",
     *b"write     ",
     *b"read      ",
     *b"refused   ",

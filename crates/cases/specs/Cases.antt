@@ -7,9 +7,11 @@ use lib.IntN.{ℤ, pos, negsuc}
 use lib.Ieee.{Float, binary64, ofBits, toBits}
 use Rattle.refusal.specs.Outcome.{Outcome, answers, refuses}
 use Rattle.point.specs.declared.Point.{Point}
+use Rattle.point.specs.declared.HighPoint.{HighPoint}
 use Rattle.sum.specs.Run.{Decision, sign, undecided, Told, runOf, leftOf}
 use Rattle.sum.specs.Ceiling.{ceilingAnswer}
 use Rattle.geometry.specs.Side.{Turned, sideOf}
+use Rattle.geometry.specs.Plane.{Counted, planeOf}
 use Rattle.track.specs.File.{limit}
 use Rattle.track.specs.Read.{readOf}
 
@@ -22,6 +24,8 @@ pub data Case : Type 0 where
   ceiling : List Float → ℕ → Case
   -- three points: sign, stage and steps
   side : Point → Point → Point → ℤ → ℕ → ℕ → Case
+  -- four points with heights: sign and steps
+  plane : HighPoint → HighPoint → HighPoint → HighPoint → ℤ → ℕ → Case
   -- the bytes of a file, and the coordinates that it holds
   file : List ℕ → List Float → Case
 
@@ -56,6 +60,10 @@ abbrev pub turnedTo : Outcome Turned → ℤ → ℕ → ℕ → Bool
 turnedTo (answers t) s n k = same (t .sign) s && (eqb (t .stage) n && eqb (t .steps) k)
 turnedTo (refuses m p) s n k = false
 
+abbrev pub summedTo : Outcome Counted → ℤ → ℕ → Bool
+summedTo (answers t) s k = same (t .sign) s && eqb (t .steps) k
+summedTo (refuses m p) s k = false
+
 abbrev pub holds : Outcome (List Float) → List Float → Bool
 holds (answers xs) ys = alike xs ys
 holds (refuses n p) ys = false
@@ -65,11 +73,12 @@ abbrev pub budget : ℕ
 budget = 2 ^ 32 - 1
 
 unfoldable pub right : Case → Bool
-unfolding runOf leftOf ceilingAnswer sideOf readOf
+unfolding runOf leftOf ceilingAnswer sideOf planeOf readOf
 right (sum xs s k) = ran (runOf xs budget) s k
 right (stepped xs k ys) = alike (leftOf xs k) ys
 right (ceiling xs n) = counted (ceilingAnswer xs) n
 right (side p q r s n k) = turnedTo (sideOf p q r) s n k
+right (plane p q r s z k) = summedTo (planeOf p q r s) z k
 right (file bytes xs) = holds (readOf limit bytes (2 * limit)) xs
 
 -- Cases 1: all of a list are right, which is one statement that computes the rules
@@ -86,6 +95,9 @@ double pattern = ofBits binary64 pattern
 abbrev point : Float → Float → Point
 point x y = record { x = x; y = y }
 
+abbrev high : Float → Float → Float → HighPoint
+high x y height = record { x = x; y = y; height = height }
+
 abbrev zero : Float
 zero = double 0
 
@@ -97,6 +109,19 @@ minusOne = double 0xBFF0000000000000
 
 abbrev two : Float
 two = double 0x4000000000000000
+
+-- 0.1, 0.2, 0.6 and 0.7: the nearest doubles
+abbrev tenth : Float
+tenth = double 0x3FB999999999999A
+
+abbrev twoTenths : Float
+twoTenths = double 0x3FC999999999999A
+
+abbrev sixTenths : Float
+sixTenths = double 0x3FE3333333333333
+
+abbrev sevenTenths : Float
+sevenTenths = double 0x3FE6666666666666
 
 -- 2^-60
 abbrev small : Float
@@ -144,6 +169,11 @@ starred =
     ∷ side origin oneOne (point one (double 0x3FF0000000000004)) (pos 1) 3 0
     -- Cases 12: (0,0) (1,1) (1, 1+2^-49): +1, stage 2
     ∷ side origin oneOne (point one (double 0x3FF0000000000008)) (pos 1) 2 0
+    -- Cases 22: (0,0,0) (1,0,0) (0,1,0) (0,0,1): -1, 0 steps
+    ∷ plane (high zero zero zero) (high one zero zero) (high zero one zero) (high zero zero one) (negsuc 0) 0
+    -- Cases 23: (0.2,0.1,0.6) (0.7,0.2,0) (0.1,0.7,0.2) (0.2,0,0): +1, 2 steps
+    ∷ plane (high twoTenths tenth sixTenths) (high sevenTenths twoTenths zero) (high tenth sevenTenths twoTenths) (high twoTenths zero zero)
+    (pos 1) 2
     -- Cases 15: `01 00 00` is the point (0,0)
     ∷ file (1 ∷ 0 ∷ 0 ∷ []) (zero ∷ zero ∷ [])
     -- Cases 20: `00` is no points

@@ -39,6 +39,8 @@ pub mod Significand
 pub mod ExactProduct
 -- grains and bounds of doubles, kept by differences and products
 pub mod Sized
+-- negations, exactly: of a factor, of what is worth, and as 0.0 - x
+pub mod Negated
 -- what callers of the exact product cite: for whom it holds, by parts, in ℤ, and how large the roundoff is
 pub mod Roundoff
 -- the double of a bit pattern

@@ -1,6 +1,8 @@
--- The laws of the side of a point and of the zone, each file over those above it.
+-- The laws of the side of a point, of the zone and of the plane, each file over those above it.
 -- the exact product, and for whom it holds
 pub mod Product
+-- a run to its end: it decides
+pub mod ToTheEnd
 -- the twelve summands: their total is the determinant
 pub mod Summands
 -- stage 3 answers, and with the determinant's sign
@@ -23,3 +25,11 @@ pub mod Answered
 pub mod Located
 -- the demands, of whatever keeps the promises of `side` and `zone`: what callers cite
 pub mod Calls
+-- entries stored one after the other
+pub mod Opening
+-- products of three coordinates, each opened into four summands
+pub mod Opened
+-- the 96 summands of four points: their total is the determinant
+pub mod Space
+-- the demands, of whatever keeps the promise of `plane`: what callers cite
+pub mod PlaneCalls

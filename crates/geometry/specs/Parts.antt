@@ -1,9 +1,10 @@
--- What inner functions of the exact product and the zone find: believed by no reader, since laws say that side and zone are what their
--- rules say.
-use Prim.Native.Nat.{_+_}
+-- What inner functions of the exact product, the zone and the plane find: believed by no reader, since laws say that side, zone and plane
+-- are what their rules say.
+use Prim.Native.Nat.{ℕ, _+_}
 use mathlib.Core.Path.{_≡_}
 use mathlib.Core.Bool.{Bool, true, false, _&&_, _||_, cond}
-use mathlib.Core.List.{List}
+use mathlib.Core.List.{List, [], _∷_}
+use lib.Seq.{sets}
 use lib.Ieee.{Float, lt, le, binary64, mul}
 use Rattle.ground.specs.Plane.{Spot}
 use Rattle.ground.specs.Edge.{Edge, isUp, isDown}
@@ -19,7 +20,10 @@ use Rattle.geometry.specs.declared.zones.Fault.{Fault}
 use Rattle.geometry.specs.declared.zones.Fault.the-variants.{None as FaultNone, At as FaultAt}
 use lib.IntN.{_+ℤ_, _*ℤ_}
 use Rattle.double.specs.Worth.{worth}
+use Rattle.point.specs.declared.HighPoint.{HighPoint}
+use Rattle.point.specs.High.{highAccepted}
 use Rattle.geometry.specs.Product.{roundoffOf}
+use Rattle.geometry.specs.Plane.{Three, three}
 use Rattle.geometry.specs.declared.product.Product.{Product}
 
 -- ---- of the exact product
@@ -73,3 +77,25 @@ cornersFault xs = acceptingFrom 2 xs tt
 unfoldable pub faultSaid : Fault → Outcome Unit
 faultSaid FaultNone = answers tt
 faultSaid (FaultAt r) = refuses (r .number) (r .place)
+
+-- ---- of the plane
+
+-- how many coordinates of a point are accepted before the first that is not
+abbrev pub firstBad : HighPoint → ℕ
+firstBad p = cond (highAccepted (p .x)) (cond (highAccepted (p .y)) (cond (highAccepted (p .height)) 3 2) 1) 0
+
+-- the summands: four for each of 24 products
+abbrev pub summands : ℕ
+summands = 96
+
+-- the six products of one x, in their order: with y and height of three points, by turns x and its negative
+abbrev pub sixFrom : Float → Float → HighPoint → HighPoint → HighPoint → List Three
+sixFrom x turned a b c =
+    three x (a .y) (b .height) ∷ three turned (a .y) (c .height)
+    ∷ three turned (b .y) (a .height) ∷ three x (b .y) (c .height)
+    ∷ three x (c .y) (a .height) ∷ three turned (c .y) (b .height)
+    ∷ []
+
+-- a list with these entries from index i on
+unfoldable pub stored : List Float → ℕ → List Float → List Float
+stored l i xs = sets l i xs

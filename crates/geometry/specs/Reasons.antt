@@ -1,4 +1,4 @@
--- What an answer of a side or a zone says of the points alone: the words of the laws about the calls (Laws.Calls).
+-- What an answer of a side, a zone or a plane says of the points alone: the words of the laws about the calls (Laws.Calls, Laws.PlaneCalls).
 use Prim.Native.Nat.{ℕ, _/_, _%_, _≤_, _<_}
 use mathlib.Core.Path.{_≡_}
 use mathlib.Core.Bool.{true, false}
@@ -8,16 +8,23 @@ use lib.Ieee.{Float, nan}
 use Rattle.refusal.specs.Outcome.{tooMany, notAccepted, tooFewCorners, oddLength}
 use Rattle.refusal.specs.Search.{IsFirst}
 use Rattle.point.specs.declared.Point.{Point}
+use Rattle.point.specs.declared.HighPoint.{HighPoint}
 use Rattle.point.specs.Accepted.{acceptedOf}
 use Rattle.point.specs.Spot.{spotOf}
+use Rattle.point.specs.High.{highAccepted}
 use Rattle.geometry.specs.Side.{sixOf}
 use Rattle.ground.specs.Edge.{edgesOf, onEdge}
 use Rattle.ground.specs.Zone.{Tally, tallyOf}
+use Rattle.geometry.specs.Plane.{twelveOf}
 use Rattle.geometry.specs.Zone.{fewest, most, cornersOf, edgeAt}
 
 -- a side is refused with this number and place
 abbrev pub SideRefusedAs : Point → Point → Point → ℕ → ℕ → Type 0
 SideRefusedAs p q r number place = (number ≡ notAccepted) × IsFirst acceptedOf nan (sixOf p q r) place
+
+-- a plane is refused with this number and place
+abbrev pub PlaneRefusedAs : HighPoint → HighPoint → HighPoint → HighPoint → ℕ → ℕ → Type 0
+PlaneRefusedAs p q r s number place = (number ≡ notAccepted) × IsFirst highAccepted nan (twelveOf p q r s) place
 
 -- a zone is refused with this number and place
 pub data ZoneRefusedAs (xs : List Float) (p : Point) : ℕ → ℕ → Type 0 where

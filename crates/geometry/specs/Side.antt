@@ -32,7 +32,7 @@ abbrev pub signDecided : Decision → ℤ
 signDecided (sign z) = z
 signDecided undecided = pos 0
 
--- stage 3, by what a run answers; that it never refuses and always decides is a law (Laws.Exact)
+-- stage 3, by what a run answers; that it never refuses and always decides is a law (Laws.ToTheEnd)
 abbrev pub byRun : Outcome Told → Turned
 byRun (answers t) = turned (signDecided (t .decided)) 3 (t .steps)
 byRun (refuses number place) = turned (pos 0) 3 0

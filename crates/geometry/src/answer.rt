@@ -27,3 +27,15 @@ pub enum Zone {
     // Refusal 5, 4 or 1 at place 0, or 3: the point at places 0 and 1, the corners from 2.
     Refused(Refusal),
 }
+
+// A sign, and the steps of the sum that told it.
+pub struct Signed {
+    pub sign: Sign,
+    pub steps: u32,
+}
+
+pub enum PlaneSide {
+    Of(Signed),
+    // Refusal 3, place 0 to 11: x, y and height of each point in order.
+    Refused(Refusal),
+}

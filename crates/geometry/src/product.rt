@@ -24,7 +24,7 @@ pub struct Product {
     pub roundoff: f64,
 }
 
-fn exact_product(x: f64, y: f64) -> Product
+pub fn exact_product(x: f64, y: f64) -> Product
     requires { ⌜ Factors x y ⌝ }
     ensures { λ r. ⌜ ExactProduct x y r ⌝ }
 {

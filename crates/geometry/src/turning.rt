@@ -12,8 +12,8 @@ use sum::answer::Run;
 use sum::answer::Sign;
 use sum::answer::Verdict;
 
-// The run of a side goes to its end.
-const TO_THE_END: u32 = u32::MAX;
+// A run goes to its end.
+pub const TO_THE_END: u32 = u32::MAX;
 
 // What no side comes to: the twelve summands are finite, and the greatest budget is enough.
 fn never() -> Turn {

@@ -1,4 +1,4 @@
--- The laws of the plane over whole numbers, each file over those above it.
+-- The laws of the rules over whole numbers, each file over those above it.
 -- the tests of order and sign, against the order of `whole`
 pub mod Compare
 -- an edge turned round: the same points on it, up where the other counts down; none counts both ways
@@ -17,5 +17,7 @@ pub mod Triangles
 pub mod Joined
 -- a triangle by sides: inside is where all three are above 0
 pub mod Sides
--- the rules at work: a square, and two zones that share a chain
+-- the determinant of four points with heights: the 24 products, two points exchanged or equal, equal heights
+pub mod Space
+-- the rules at work: a square, two zones that share a chain, and four points with heights
 mod Examples

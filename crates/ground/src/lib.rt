@@ -1,1 +1,1 @@
-// The rules of the plane over whole numbers: points, sides, edges, the zone. Definitions and laws; no function.
+// The rules over whole numbers: points, sides, edges, the zone; points with heights. Definitions and laws; no function.

@@ -5,3 +5,5 @@ pub mod Zones
 pub mod Relisted
 -- two zones that share an edge or a chain of edges, and their joint outline
 pub mod Joined
+-- the plane: equal by value, two points exchanged or equal, equal heights, a ball above or below
+pub mod Planes

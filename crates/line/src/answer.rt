@@ -8,6 +8,7 @@ pub enum Word {
     Plain,
     Side,
     Zone,
+    Plane,
     Write,
     Read,
 }

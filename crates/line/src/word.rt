@@ -30,6 +30,8 @@ const SIDE: u64 = 0x7369_6465;
 
 const ZONE: u64 = 0x7A6F_6E65;
 
+const PLANE: u64 = 0x706C_616E_65;
+
 const WRITE: u64 = 0x7772_6974_65;
 
 const READ: u64 = 0x7265_6164;
@@ -71,6 +73,9 @@ pub fn word_of(letters: u64) -> Known
     if letters == ZONE {
         return Known::Word(Word::Zone);
     }
+    if letters == PLANE {
+        return Known::Word(Word::Plane);
+    }
     if letters == WRITE {
         return Known::Word(Word::Write);
     }
@@ -90,6 +95,7 @@ pub fn form_of(word: Word) -> Form
         Word::Plain => Form::Doubles,
         Word::Side => Form::Doubles,
         Word::Zone => Form::Doubles,
+        Word::Plane => Form::Doubles,
         Word::Write => Form::Counted,
         Word::Read => Form::File,
     }

@@ -19,7 +19,7 @@ acceptedWithin k nan = false
 acceptedWithin k (inf s) = false
 acceptedWithin k (fin s m e) = inRange k (mag binary64 (fin s m e))
 
--- the 400 of the plane
+-- the 400 of points of the ground plan
 abbrev pub reach : ℕ
 reach = 400
 

@@ -1,4 +1,4 @@
--- A point by what its coordinates are worth, in units of 2^-1074: the rules of the plane (`ground`) are about these. So values are compared, and
+-- A point by what its coordinates are worth, in units of 2^-1074: the rules of `ground` are about these. So values are compared, and
 -- the two zeros are equal (Zone 8).
 use Prim.Native.Nat.{_^_}
 use lib.IntN.{ℤ, pos}

@@ -1,23 +1,23 @@
 -- The exact product. Of two doubles whose product is a whole number of units and far from the format's end, the rounded product and the
 -- last difference of Dekker's run, plus 0.0, make up the product. Small factors may be subnormal, and zeros are allowed. In order: what is
--- asked of the factors; x + 0.0; the product's scale; the law. Not here: for whom the condition holds, and the law over plus and minus
--- parts and in ℤ (`Roundoff`). Assumes nothing.
-use mathlib.Core.Path.{_≡_, refl, sym, ap, ap₂, _∙_, subst}
-use mathlib.Core.Bool.{Bool, true, false, not}
+-- asked of the factors; the product's scale; the law. Not here: for whom the condition holds, and the law over plus and minus parts and in
+-- ℤ (`Roundoff`). Assumes nothing.
+use mathlib.Core.Path.{_≡_, refl, sym, ap, ap₂, _∙_}
+use mathlib.Core.Bool.{not}
 use mathlib.Core.Logic.{inl, inr}
 use Prim.Native.Nat.{ℕ, suc, _+_, _-_, _*_, _^_, _≤_, _<_, _∣_}
-use native.Mathlib.Nat.{le-of-eq, le-of-lt, lt-of-le-of-lt, lt-of-lt-of-le, eq-zero-or-pos, mul-le-mul, mul-lt-mul-of-pos-right, dvd-zero}
+use native.Mathlib.Nat.{le-of-eq, le-of-lt, lt-of-le-of-lt, lt-of-lt-of-le, mul-le-mul, mul-lt-mul-of-pos-right, dvd-zero}
 use native.Mathlib.Nat.{eq-of-mul-eq-mul-right, add-comm, add-mul, zero-mul, mul-zero, mul-assoc, mul-right-comm, mul-mul-mul-comm}
 use native.Mathlib.Omega.{arith}
 use lib.Dec.{lit≤}
 use lib.Pow.{pow-add, pow-pos}
-use lib.Ieee.{Float, binary64, add, mul, unlike}
+use lib.Ieee.{Float, binary64, mul, unlike}
 use Rattle.double.specs.Worth.{signBit, mag}
 use Rattle.double.proofs.Laws.Digits.{gap}
 use Rattle.double.proofs.Laws.Rounding.{rn}
 use Rattle.double.proofs.Laws.Units.{Real}
-use Rattle.double.proofs.Laws.Signed.{part, Split, part-both, part-own}
-use Rattle.double.proofs.Laws.Zero.{plusZero, zero-real, add-plusZero, zero-plusZero}
+use Rattle.double.proofs.Laws.Signed.{part, part-own}
+use Rattle.double.proofs.Laws.Zero.{plusZero, tidied, tidied-split, tidied-zero}
 use Rattle.double.proofs.Laws.ProductSign.{mul-signBit}
 use Rattle.double.proofs.Laws.Scaled.{Scaled}
 use Rattle.double.proofs.Laws.Splitting.{Room, room-le, room-pow, digits-none, mul-double, mul-double-round}
@@ -41,35 +41,6 @@ pub record Factors (x y : Float) : Type 0 where
   pub x-small : mag binary64 x ≤ 2 ^ factorMost
   pub y-small : mag binary64 y ≤ 2 ^ factorMost
   pub small : mag binary64 x * mag binary64 y < 2 ^ productMost
-
--- ---- x + 0.0 is worth what x is, and +0 where x is a zero
-abbrev tidied : Float → Float
-tidied x = add binary64 x plusZero
-
-tidied-split : (s : Bool) (x : Float) → Real binary64 x → Split s binary64 (tidied x) (part s binary64 x) (part (not s) binary64 x)
-tidied-split s x r = elim (eq-zero-or-pos (mag binary64 x)) [
-  | inl e ↦
-      let b = part-both s binary64 x in
-      subst (λ (z : Float). Split s binary64 z (part s binary64 x) (part (not s) binary64 x)) (sym (zero-plusZero binary64 x r e))
-      (record {
-        real = zero-real binary64;
-        same = nothing s ∙ left (part s binary64 x) (part (not s) binary64 x) (mag binary64 x) b e;
-        other = nothing (not s) ∙ right (part s binary64 x) (part (not s) binary64 x) (mag binary64 x) b e;
-      })
-  | inr h ↦
-      subst (λ (z : Float). Split s binary64 z (part s binary64 x) (part (not s) binary64 x)) (sym (add-plusZero binary64 x r h))
-      (record { real = r; same = refl; other = refl })
-]
-  where
-    nothing : (s : Bool) → part s binary64 plusZero ≡ 0
-    nothing true = refl
-    nothing false = refl
-
-    left : (a b n : ℕ) → a + b ≡ n → n ≡ 0 → 0 ≡ a
-    left a b n p q = omega arith
-
-    right : (a b n : ℕ) → a + b ≡ n → n ≡ 0 → 0 ≡ b
-    right a b n p q = omega arith
 
 -- ---- the product's scale: X * Y in squares of units, and as significands
 scales : (X Y m n g h t : ℕ) → X * 2 ^ t ≡ m * 2 ^ g → Y * 2 ^ t ≡ n * 2 ^ h → m * n * 2 ^ (g + h) ≡ X * Y * (2 ^ t * 2 ^ t)
@@ -117,7 +88,7 @@ pub record Exact (x y r e : Float) : Type 0 where
 
 -- the roundoff of the product: the last difference of the run, plus 0.0
 abbrev pub roundoff : Float → Float → Float
-roundoff x y = tidied (lastDifference (mul binary64 x y) x y)
+roundoff x y = tidied binary64 (lastDifference (mul binary64 x y) x y)
 
 module _ (x y : Float) (i j : ℕ) (whole : 1074 ≤ i + j) (X : Significand i x) (Y : Significand j y)
     (small : mag binary64 x * mag binary64 y < 2 ^ productMost) where
@@ -143,14 +114,12 @@ module _ (x y : Float) (i j : ℕ) (whole : 1074 ≤ i + j) (X : Significand i x
       let o = lastDifference r x y in
       let O = dekker i j (i + j - 1074) 53 53 down (X .z) (Y .z) (X .z + Y .z) grains powers (signBit x) (signBit y) x y r
       (X .m) (X .h) (X .p) (X .n) (Y .m) (Y .h) (Y .p) (Y .n) R N (X .halved) (Y .halved) A d h b hh room in
-      let t = tidied-split v o (O .real) in
+      let t = tidied-split v binary64 o (O .real) in
       record {
         r-real = A .real;
         e-real = t .real;
         r-sign = mul-signBit binary64 x y (X .halved .at .real .fin) (Y .halved .at .real .fin);
-        e-zero = λ e. zero-plusZero binary64 o (O .real)
-            (sym (part-both v binary64 o) ∙ ap₂ (λ (a b : ℕ). a + b) (sym (t .same)) (sym (t .other))
-            ∙ part-both v binary64 (tidied o) ∙ e);
+        e-zero = tidied-zero binary64 o (O .real);
         exact =
             ap (λ (n : ℕ). (part v binary64 r + n) * 2 ^ 1074) (t .same)
             ∙ add-mul (part v binary64 r) (part v binary64 o) (2 ^ 1074)

@@ -1,9 +1,10 @@
 -- Which zero a sum of 0 is. In order: +0; values of unlike sign and equal magnitude add to +0, so x - x is +0; x + 0 is x, and +0 where x
--- is a zero; a value against 0. Not here: the zero of a product. Assumes nothing.
-use mathlib.Core.Path.{_≡_, refl, ap, ap₂, _∙_}
+-- is a zero, also by parts; a value against 0. Not here: the zero of a product. Assumes nothing.
+use mathlib.Core.Path.{_≡_, refl, sym, ap, ap₂, _∙_, subst}
 use mathlib.Core.Bool.{Bool, true, false, not, cond}
+use mathlib.Core.Logic.{inl, inr}
 use Prim.Native.Nat.{ℕ, _+_, _-_, _^_, _<_, zero-le}
-use native.Mathlib.Nat.{le-refl, add-zero, zero-add, sub-zero}
+use native.Mathlib.Nat.{le-refl, eq-zero-or-pos, add-zero, zero-add, sub-zero}
 use native.Mathlib.Omega.{arith}
 use lib.Arith.{le→nltb}
 use lib.IntN.{pos}
@@ -14,6 +15,7 @@ use Rattle.double.specs.Worth.{signBit, mag, plus, minus, ofUnits}
 use Rattle.double.proofs.Laws.Units.{Real, mag-zero-parts, ofUnits-own}
 use Rattle.double.proofs.Laws.Compare.{lt-is}
 use Rattle.double.proofs.Laws.Sum.{add-is, neg-real, neg-signBit, neg-mag}
+use Rattle.double.proofs.Laws.Signed.{part, Split, part-both}
 
 -- +0, written as the formats write it
 abbrev pub plusZero : Float
@@ -68,13 +70,13 @@ sum-zero f true n h =
     (not-below n) (is-true (ltb 0 n) (lt→ltb 0 n h))
     ∙ ap (ofUnits f true) (sub-zero n)
 
-pub add-plusZero : (f : Format) (x : Float) → Real f x → 0 < mag f x → add f x plusZero ≡ x
+add-plusZero : (f : Format) (x : Float) → Real f x → 0 < mag f x → add f x plusZero ≡ x
 add-plusZero f x r h =
     add-is f x plusZero r (zero-real f)
     ∙ ap (λ (n : ℕ). sum f (signBit x) (mag f x) false n (2 ^ low f)) (zero-mag f)
     ∙ sum-zero f (signBit x) (mag f x) h ∙ ofUnits-own f x r
 
-pub zero-plusZero : (f : Format) (x : Float) → Real f x → mag f x ≡ 0 → add f x plusZero ≡ plusZero
+zero-plusZero : (f : Format) (x : Float) → Real f x → mag f x ≡ 0 → add f x plusZero ≡ plusZero
 unfolding sum ofUnits
 zero-plusZero f x r e =
     add-is f x plusZero r (zero-real f)
@@ -84,6 +86,41 @@ zero-plusZero f x r e =
     zeros : (s : Bool) → sum f s 0 false 0 (2 ^ low f) ≡ plusZero
     zeros true = sum-cancel f true 0
     zeros false = ofUnits-plusZero f
+
+-- so by parts it is what x is
+abbrev pub tidied : Format → Float → Float
+tidied f x = add f x plusZero
+
+pub tidied-split : (s : Bool) (f : Format) (x : Float) → Real f x → Split s f (tidied f x) (part s f x) (part (not s) f x)
+tidied-split s f x r = elim (eq-zero-or-pos (mag f x)) [
+  | inl e ↦
+      let b = part-both s f x in
+      subst (λ (z : Float). Split s f z (part s f x) (part (not s) f x)) (sym (zero-plusZero f x r e))
+      (record {
+        real = zero-real f;
+        same = nothing s ∙ left (part s f x) (part (not s) f x) (mag f x) b e;
+        other = nothing (not s) ∙ right (part s f x) (part (not s) f x) (mag f x) b e;
+      })
+  | inr h ↦
+      subst (λ (z : Float). Split s f z (part s f x) (part (not s) f x)) (sym (add-plusZero f x r h))
+      (record { real = r; same = refl; other = refl })
+]
+  where
+    nothing : (s : Bool) → part s f plusZero ≡ 0
+    nothing true = refl
+    nothing false = zero-mag f
+
+    left : (a b n : ℕ) → a + b ≡ n → n ≡ 0 → 0 ≡ a
+    left a b n p q = omega arith
+
+    right : (a b n : ℕ) → a + b ≡ n → n ≡ 0 → 0 ≡ b
+    right a b n p q = omega arith
+
+pub tidied-zero : (f : Format) (x : Float) → Real f x → mag f (tidied f x) ≡ 0 → tidied f x ≡ plusZero
+tidied-zero f x r e =
+    let t = tidied-split false f x r in
+    zero-plusZero f x r
+    (sym (part-both false f x) ∙ ap₂ (λ (a b : ℕ). a + b) (sym (t .same)) (sym (t .other)) ∙ part-both false f (tidied f x) ∙ e)
 
 -- ---- against 0: above it where there is a plus part, below it where there is a minus part
 zero-parts : (f : Format) → (plus f plusZero ≡ 0) × (minus f plusZero ≡ 0)

@@ -1,24 +1,25 @@
 -- The exact product of two doubles, and of two coordinates. In order: a quotient without remainder; the code's roundoff is the promised
--- one, and the promise; negations of coordinates of the reach k; the pair of two coordinates: how large, and what its total is.
--- Not here: the code's roundoff itself (double's `ExactProduct`); the list of all pairs (`Summands`). Assumes nothing.
+-- one, and the promise; the pair of two doubles of known grain and size: how large, what its total is, and what it is with a factor
+-- negated; the same for two coordinates.
+-- Not here: the code's roundoff itself (double's `ExactProduct`); lists of pairs (`Summands`, `Opened`). Assumes nothing.
 use mathlib.Core.Path.{_≡_, refl, sym, ap, _∙_, subst}
-use Prim.Native.Nat.{ℕ, zero, suc, _+_, _-_, _*_, _/_, _^_, _≤_, _<_, _∣_}
-use native.Mathlib.Nat.{le-trans, le-of-eq, lt-irrefl, zero-lt-suc, mul-pos, mul-div-cancel}
+use Prim.Native.Nat.{ℕ, zero, suc, _+_, _-_, _*_, _/_, _^_, _≤_, _<_}
+use native.Mathlib.Nat.{lt-irrefl, zero-lt-suc, mul-pos, mul-div-cancel}
 use native.Mathlib.Omega.{arith}
 use lib.IntN.{ℤ, pos, negsuc, negℤ, _+ℤ_, _-ℤ_, _*ℤ_}
 use lib.Signed.{quotZ}
 use lib.Pow.{pow-pos}
-use lib.Ieee.{Float, binary64, ofBits, add, mul, neg}
-use Rattle.whole.proofs.Laws.Parts.{up, dn, up-neg, dn-neg, ≡-parts}
-use Rattle.whole.proofs.Laws.Ring.{_:+_, _:-_, solve}
+use lib.Ieee.{Float, binary64, ofBits, add, sub, mul, neg}
+use Rattle.whole.proofs.Laws.Ring.{_:+_, _:-_, _:*_, opp, solve}
 use Rattle.double.specs.Worth.{signBit, mag, worth, doubleOf}
-use Rattle.double.proofs.Laws.Worth.{worth-up, worth-dn, doubleOf-worth-own}
-use Rattle.double.proofs.Laws.Sum.{neg-plus, neg-minus, neg-mag, neg-real}
+use Rattle.double.proofs.Laws.Worth.{doubleOf-worth-own}
 use Rattle.double.proofs.Laws.Zero.{plusZero}
 use Rattle.double.proofs.Laws.Dekker.{lastDifference}
+use Rattle.double.proofs.Laws.Significand.{factorMost}
 use Rattle.double.proofs.Laws.ExactProduct.{Factors, Exact, roundoff, exact-product}
 use Rattle.double.proofs.Laws.Sized.{Sized, Reach, sized-of, sided-own, mul-sided}
-use Rattle.double.proofs.Laws.Roundoff.{exact-worth, factors-reach, roundoff-sized}
+use Rattle.double.proofs.Laws.Roundoff.{exact-worth, factors-of, roundoff-sized}
+use Rattle.double.proofs.Laws.Negated.{worth-neg, mul-neg, zero-less}
 use Rattle.point.specs.Spot.{unit}
 use Rattle.geometry.specs.Product.{roundoffOf}
 use Rattle.geometry.specs.Parts.{ExactProduct}
@@ -53,7 +54,7 @@ module _ (x y : Float) (E : Exact x y (mul binary64 x y) (roundoff x y)) where
   roundoff-exact = ap (λ (e : Float). (worth (mul binary64 x y) +ℤ worth e) *ℤ unit) (sym roundoff-is) ∙ exact-worth E
 
 -- the code's constant, by its pattern
-zero-pattern : ofBits binary64 0 ≡ plusZero
+pub zero-pattern : ofBits binary64 0 ≡ plusZero
 unfolding ofBits
 zero-pattern = refl
 
@@ -69,48 +70,74 @@ product-promised x y F =
       exact = roundoff-exact x y E;
     }
 
--- ---- negations of coordinates of the reach k
-pub reach-neg : (k : ℕ) (x : Float) → Reach k x → Reach k (neg x)
-reach-neg k x r = record {
-  real = neg-real binary64 x (r .real);
-  grain = subst (λ (n : ℕ). 2 ^ (1022 - k) ∣ n) (sym (neg-mag binary64 x)) (r .grain);
-  most = le-trans (le-of-eq (neg-mag binary64 x)) (r .most);
-}
+-- ---- the pair of two doubles of known grain and size: each a multiple of 2 ^ g and at most 2 ^ b units, and in squares of units the product
+pub record Paired (g b : ℕ) (x y : Float) : Type 0 where
+  pub rounded : Sized g b (mul binary64 x y)
+  pub rest : Sized g b (roundoffOf x y)
+  pub exact : (worth (mul binary64 x y) +ℤ worth (roundoffOf x y)) *ℤ unit ≡ worth x *ℤ worth y
 
-pub worth-neg : (k : ℕ) (x : Float) → Reach k x → worth (neg x) ≡ negℤ (worth x)
-worth-neg k x r =
-    parted (worth (neg x)) (worth x)
-    (worth-up (neg x) ∙ neg-plus binary64 x (r .real .fin) ∙ sym (worth-dn x))
-    (worth-dn (neg x) ∙ neg-minus binary64 x (r .real .fin) ∙ sym (worth-up x))
-  where
-    parted : (w z : ℤ) → up w ≡ dn z → dn w ≡ up z → w ≡ negℤ z
-    parted w z a b = ≡-parts w (negℤ z) .1 (omega (arith, up-neg z, dn-neg z))
+-- grains and sizes of two factors, and of their pair
+pub record Meets (g1 b1 g2 b2 g b : ℕ) : Type 0 where
+  pub grains : g1 + g2 ≡ g + 1074
+  pub mosts : b1 + b2 ≡ b + 1074
+  pub first : b1 ≤ factorMost
+  pub second : b2 ≤ factorMost
+  pub below : b < 2097
 
--- ---- the pair of two coordinates: each a multiple of 2 ^ pairGrain and at most 2 ^ pairMost units, and in squares of units the product
+module _ {g1 b1 g2 b2 g b : ℕ} (m : Meets g1 b1 g2 b2 g b) (x y : Float) (X : Sized g1 b1 x) (Y : Sized g2 b2 y) where
+  pub sized-factors : Factors x y
+  sized-factors =
+      factors-of g1 b1 g2 b2 X Y (omega (arith, m .grains)) (m .first) (m .second) (omega (arith, m .mosts, m .below))
+
+  room : b < 2098
+  room = omega (arith, m .below)
+
+  exactly : Exact x y (mul binary64 x y) (roundoff x y)
+  exactly = exact-product x y sized-factors
+
+  pub sized-paired : Paired g b x y
+  sized-paired = record {
+    rounded = sized-of (mul-sided (signBit x) (signBit y) g1 b1 g2 b2 g x y (mag binary64 x) (mag binary64 y) (sided-own X) (sided-own Y)
+        (m .grains) b (m .mosts) room);
+    rest = subst (λ (e : Float). Sized g b e) (roundoff-is x y exactly)
+        (roundoff-sized g1 b1 g2 b2 g b x y X Y (m .grains) (m .mosts) room exactly);
+    exact = roundoff-exact x y exactly;
+  }
+
+  -- with x negated, 0.0 less the roundoff: +0 where that is nothing
+  pub roundoff-neg : roundoffOf (neg x) y ≡ sub binary64 plusZero (roundoffOf x y)
+  unfolding roundoffOf
+  roundoff-neg =
+      let r : ℤ = worth (mul binary64 x y) in
+      let e : ℤ = worth (roundoffOf x y) in
+      let turned : (worth (mul binary64 (neg x) y) +ℤ negℤ e) *ℤ unit ≡ worth (neg x) *ℤ worth y =
+      ap (λ (z : ℤ). (z +ℤ negℤ e) *ℤ unit) (ap worth (mul-neg binary64 x y) ∙ worth-neg (mul binary64 x y) (sized-paired .rounded .real))
+      ∙ both r e unit ∙ ap negℤ (sized-paired .exact) ∙ first (worth x) (worth y)
+      ∙ ap (λ (z : ℤ). z *ℤ worth y) (sym (worth-neg x (X .real))) in
+      ap doubleOf (quot-rest (worth (mul binary64 (neg x) y)) (negℤ e) (worth (neg x) *ℤ worth y) (2 ^ 1074) (pow-pos 1074) turned)
+      ∙ zero-less (roundoffOf x y) (sized-paired .rest .real)
+    where
+      both : (r e u : ℤ) → (negℤ r +ℤ negℤ e) *ℤ u ≡ negℤ ((r +ℤ e) *ℤ u)
+      both = solve 3 (λ r e u. ((opp r :+ opp e) :* u, opp ((r :+ e) :* u))) refl
+
+      first : (x y : ℤ) → negℤ (x *ℤ y) ≡ negℤ x *ℤ y
+      first = solve 2 (λ x y. (opp (x :* y), opp x :* y)) refl
+
+-- ---- the pair of two coordinates of the reach k
 abbrev pub pairGrain : ℕ → ℕ
 pairGrain k = 970 - (k + k)
 
 abbrev pub pairMost : ℕ → ℕ
 pairMost k = 1074 + (k + k)
 
-pub record Paired (k : ℕ) (x y : Float) : Type 0 where
-  pub rounded : Sized (pairGrain k) (pairMost k) (mul binary64 x y)
-  pub rest : Sized (pairGrain k) (pairMost k) (roundoffOf x y)
-  pub exact : (worth (mul binary64 x y) +ℤ worth (roundoffOf x y)) *ℤ unit ≡ worth x *ℤ worth y
+pub reach-meets : (k : ℕ) → k ≤ 485 → Meets (1022 - k) (1074 + k) (1022 - k) (1074 + k) (pairGrain k) (pairMost k)
+reach-meets k h = record {
+  grains = omega arith;
+  mosts = omega arith;
+  first = omega arith;
+  second = omega arith;
+  below = omega arith;
+}
 
-module _ (k : ℕ) (room : k ≤ 485) (x y : Float) (X : Reach k x) (Y : Reach k y) where
-  pub reach-paired : Paired k x y
-  reach-paired =
-      let l : ℕ = 1022 - k in
-      let m : ℕ = 1074 + k in
-      let E = exact-product x y (factors-reach k room X Y) in
-      let grains : l + l ≡ pairGrain k + 1074 = omega arith in
-      let mosts : m + m ≡ pairMost k + 1074 = omega arith in
-      let below : pairMost k < 2098 = omega arith in
-      record {
-        rounded = sized-of (mul-sided (signBit x) (signBit y) l m l m (pairGrain k) x y (mag binary64 x) (mag binary64 y) (sided-own X)
-            (sided-own Y) grains (pairMost k) mosts below);
-        rest = subst (λ (e : Float). Sized (pairGrain k) (pairMost k) e) (roundoff-is x y E)
-            (roundoff-sized l m l m (pairGrain k) (pairMost k) x y X Y grains mosts below E);
-        exact = roundoff-exact x y E;
-      }
+pub reach-paired : (k : ℕ) (h : k ≤ 485) (x y : Float) → Reach k x → Reach k y → Paired (pairGrain k) (pairMost k) x y
+reach-paired k h x y X Y = sized-paired (reach-meets k h) x y X Y

@@ -18,6 +18,7 @@ use Rattle.whole.proofs.Laws.Ring.{_:+_, _:-_, _:*_, opp, num, solve}
 use Rattle.whole.proofs.Laws.Sign.{sgn-scale}
 use Rattle.double.specs.Worth.{worth}
 use Rattle.double.proofs.Laws.Sized.{Sized}
+use Rattle.double.proofs.Laws.Negated.{sized-neg, worth-neg}
 use Rattle.point.specs.declared.Point.{Point}
 use Rattle.point.specs.Accepted.{reach}
 use Rattle.point.specs.Spot.{determinant, unit}
@@ -30,7 +31,7 @@ use Rattle.sum.proofs.Laws.Ceiling.{ceiling-sized}
 use Rattle.sum.proofs.Laws.Calls.{total-none, total-more}
 use Rattle.geometry.specs.Product.{roundoffOf, summandsOf}
 use Rattle.geometry.specs.Side.{mostSteps}
-use Rattle.geometry.proofs.Laws.Product.{Paired, pairGrain, pairMost, reach-neg, worth-neg, reach-paired}
+use Rattle.geometry.proofs.Laws.Product.{Paired, pairGrain, pairMost, reach-paired}
 
 pub summands-length : (p q r : Point) → length (summandsOf p q r) ≡ 12
 unfolding summandsOf
@@ -70,29 +71,29 @@ six-sums p q r s t u = cc
 
 -- ---- the twelve summands
 module _ (k : ℕ) (room : k ≤ 485) (p q r : Point) (P : Within k p) (Q : Within k q) (R : Within k r) where
-  one : Paired k (q .x) (r .y)
+  one : Paired (pairGrain k) (pairMost k) (q .x) (r .y)
   one = reach-paired k room (q .x) (r .y) (Q .x) (R .y)
 
-  two : Paired k (neg (q .x)) (p .y)
-  two = reach-paired k room (neg (q .x)) (p .y) (reach-neg k (q .x) (Q .x)) (P .y)
+  two : Paired (pairGrain k) (pairMost k) (neg (q .x)) (p .y)
+  two = reach-paired k room (neg (q .x)) (p .y) (sized-neg (Q .x)) (P .y)
 
-  three : Paired k (neg (p .x)) (r .y)
-  three = reach-paired k room (neg (p .x)) (r .y) (reach-neg k (p .x) (P .x)) (R .y)
+  three : Paired (pairGrain k) (pairMost k) (neg (p .x)) (r .y)
+  three = reach-paired k room (neg (p .x)) (r .y) (sized-neg (P .x)) (R .y)
 
-  four : Paired k (neg (q .y)) (r .x)
-  four = reach-paired k room (neg (q .y)) (r .x) (reach-neg k (q .y) (Q .y)) (R .x)
+  four : Paired (pairGrain k) (pairMost k) (neg (q .y)) (r .x)
+  four = reach-paired k room (neg (q .y)) (r .x) (sized-neg (Q .y)) (R .x)
 
-  five : Paired k (q .y) (p .x)
+  five : Paired (pairGrain k) (pairMost k) (q .y) (p .x)
   five = reach-paired k room (q .y) (p .x) (Q .y) (P .x)
 
-  six : Paired k (p .y) (r .x)
+  six : Paired (pairGrain k) (pairMost k) (p .y) (r .x)
   six = reach-paired k room (p .y) (r .x) (P .y) (R .x)
 
   summands-sized : All (Sized (pairGrain k) (pairMost k)) (summandsOf p q r)
   unfolding summandsOf
   summands-sized = paired one (paired two (paired three (paired four (paired five (paired six tt)))))
     where
-      paired : {x y : Float} {A : Type 0} → Paired k x y → A
+      paired : {x y : Float} {A : Type 0} → Paired (pairGrain k) (pairMost k) x y → A
           → Sized (pairGrain k) (pairMost k) (mul binary64 x y) × (Sized (pairGrain k) (pairMost k) (roundoffOf x y) × A)
       paired t a = (t .rounded, (t .rest, a))
 
@@ -114,9 +115,9 @@ module _ (k : ℕ) (room : k ≤ 485) (p q r : Point) (P : Within k p) (Q : With
       unit
       ∙ six-sums
       (one .exact)
-      (two .exact ∙ ap (λ (z : ℤ). z *ℤ worth (p .y)) (worth-neg k (q .x) (Q .x)))
-      (three .exact ∙ ap (λ (z : ℤ). z *ℤ worth (r .y)) (worth-neg k (p .x) (P .x)))
-      (four .exact ∙ ap (λ (z : ℤ). z *ℤ worth (r .x)) (worth-neg k (q .y) (Q .y)))
+      (two .exact ∙ ap (λ (z : ℤ). z *ℤ worth (p .y)) (worth-neg (q .x) (Q .x .real)))
+      (three .exact ∙ ap (λ (z : ℤ). z *ℤ worth (r .y)) (worth-neg (p .x) (P .x .real)))
+      (four .exact ∙ ap (λ (z : ℤ). z *ℤ worth (r .x)) (worth-neg (q .y) (Q .y .real)))
       (five .exact)
       (six .exact)
       ∙ six-products (worth (p .x)) (worth (p .y)) (worth (q .x)) (worth (q .y)) (worth (r .x)) (worth (r .y))
@@ -129,7 +130,7 @@ module _ (k : ℕ) (room : k ≤ 485) (p q r : Point) (P : Within k p) (Q : With
       span : (k : ℕ) → k ≤ 485 → pairMost k + 1 - pairGrain k ≡ 105 + 4 * k
       span k h = omega arith
 
--- ---- accepted points: what `accepted-within` of `Product` gives
+-- ---- accepted points: what `accepted-within` of point gives
 module _ (p q r : Point) (P : Within reach p) (Q : Within reach q) (R : Within reach r) where
   pub summands-real : AllReal (summandsOf p q r)
   summands-real = summands-real-within reach (lit≤ tt) p q r P Q R

@@ -1,5 +1,5 @@
--- The rules at work on small zones: checked examples, cited by no law. In order: a square, and the square listed twice; two zones that share
--- a chain of two edges, and their joint outline, with a point of each.
+-- The rules at work on small numbers: checked examples, cited by no law. In order: a square, and the square listed twice; two zones that
+-- share a chain of two edges, and their joint outline, with a point of each; four points with heights.
 -- Assumes nothing.
 use mathlib.Core.Path.{_≡_, refl}
 use mathlib.Core.List.{List, [], _∷_, _++_}
@@ -9,6 +9,7 @@ use Rattle.ground.specs.Plane.{Spot}
 use Rattle.ground.specs.Edge.{edgesFrom, edgesOf, onEdge, isUp, isDown}
 use Rattle.ground.specs.Zone.{countOf, tallyOf, Lies, outside, border, inside, offBorder, walk, placeOf}
 use Rattle.ground.specs.Listing.{Joined}
+use Rattle.ground.specs.Space.{HighSpot, determinant}
 use Rattle.ground.proofs.Laws.Joined.{joined-opposite, joined-alike}
 
 abbrev spot : ℤ → ℤ → Spot
@@ -77,3 +78,22 @@ in-lower = (refl, refl, refl)
 on-chain : (liesIn upper (pos 2) (pos 1) ≡ border 0) × (liesIn lower (pos 2) (pos 1) ≡ border 0) × (liesIn outline (pos 2) (pos 1) ≡ inside)
 unfolding placeOf walk offBorder tallyOf countOf isUp isDown onEdge edgesOf edgesFrom atMost below
 on-chain = (refl, refl, refl)
+
+-- ---- four points with heights
+abbrev high : ℤ → ℤ → ℤ → HighSpot
+high x y height = record { x = x; y = y; height = height }
+
+-- the origin and the three axes
+axes : determinant (high (pos 0) (pos 0) (pos 0)) (high (pos 1) (pos 0) (pos 0)) (high (pos 0) (pos 1) (pos 0))
+    (high (pos 0) (pos 0) (pos 1)) ≡ negsuc 0
+axes = refl
+
+-- (2, -3, 7), (5, 1, -4), (-6, 8, 9), (3, -9, -2): the value is of another program, which eliminates by rows
+known-value : determinant (high (pos 2) (negsuc 2) (pos 7)) (high (pos 5) (pos 1) (negsuc 3)) (high (negsuc 5) (pos 8) (pos 9))
+    (high (pos 3) (negsuc 8) (negsuc 1)) ≡ pos 948
+known-value = refl
+
+-- the first and the last exchanged
+outside-exchanged : determinant (high (pos 3) (negsuc 8) (negsuc 1)) (high (pos 5) (pos 1) (negsuc 3)) (high (negsuc 5) (pos 8) (pos 9))
+    (high (pos 2) (negsuc 2) (pos 7)) ≡ negsuc 947
+outside-exchanged = refl

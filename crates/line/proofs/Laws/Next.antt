@@ -147,10 +147,10 @@ module _ (letters : ℕ) where
   abbrev is-not : String → Type 0
   is-not name = letters ≡ lettersOf 0 name → ⊥
 
-  pub word-none : is-not "apart" → is-not "run" → is-not "ceiling" → is-not "plain" → is-not "side" → is-not "zone" → is-not "write"
-      → is-not "read" → Other ≡ wordOf letters
+  pub word-none : is-not "apart" → is-not "run" → is-not "ceiling" → is-not "plain" → is-not "side" → is-not "zone" → is-not "plane"
+      → is-not "write" → is-not "read" → Other ≡ wordOf letters
   unfolding wordOf
-  word-none n1 n2 n3 n4 n5 n6 n7 n8 =
+  word-none n1 n2 n3 n4 n5 n6 n7 n8 n9 =
       rw (
         ne-eqb letters _ n1,
         ne-eqb letters _ n2,
@@ -160,6 +160,7 @@ module _ (letters : ℕ) where
         ne-eqb letters _ n6,
         ne-eqb letters _ n7,
         ne-eqb letters _ n8,
+        ne-eqb letters _ n9,
       )
 
   pub named-other : wordOf letters ≡ Other → Unclear ≡ namedOf letters

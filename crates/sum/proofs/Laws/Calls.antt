@@ -3,7 +3,7 @@
 -- ceiling, and how many steps are taken; the plain sum; what a caller with a list of its own needs;
 -- a run to the end. A list that is lent holds doubles (`AllDoubles`).
 -- Assumes nothing.
-use mathlib.Core.Path.{_≡_, refl, sym, ap, _∙_, subst}
+use mathlib.Core.Path.{_≡_, refl, sym, ap, ap₂, _∙_, subst}
 use mathlib.Core.List.{List, [], _∷_}
 use mathlib.Core.Logic.{_↔_, _⊎_, inl, inr}
 use Prim.Native.Nat.{ℕ, _≤_, _<_, min}
@@ -210,17 +210,19 @@ pub total-more : (x : Float) (xs : List Float) → totalOf (x ∷ xs) ≡ worth 
 unfolding totalOf
 total-more x xs = refl
 
--- ---- a run to the end: the greatest budget always decides
+-- ---- a run to the end: the greatest budget always decides, after just the steps that settle the list
 pub settled-told : (xs : List Float) → AllReal xs → length xs ≤ limit
-    → (k : ℕ) × (runOf xs mostBudget ≡ answers (record { decided = sign (sgn (totalOf xs)); steps = k })) × (k ≤ ceilingOf xs)
+    → (k : ℕ) × (runOf xs mostBudget ≡ answers (record { decided = sign (sgn (totalOf xs)); steps = k })) × (k ≤ ceilingOf xs) × Settles xs k
 unfolding runOf
 settled-told xs a short =
-    let k = ranFrom mostBudget 0 xs .steps in
+    let (k, settled, most) = settles xs a short in
     let enough : ceilingOf xs ≤ mostBudget = le-trans (ceiling-most xs a short) (lit≤ tt) in (
       k,
       checked-accepted xs _ (real-accepted xs a short)
-          ∙ ap (λ (t : Decision). answers (record { decided = t; steps = k })) (ceiling-sign mostBudget xs a short enough),
-      ceiling-steps mostBudget xs a short,
+          ∙ ap₂ (λ (t : Decision) (n : ℕ). answers (record { decided = t; steps = n })) (ceiling-sign mostBudget xs a short enough)
+          (settled-enough xs k settled mostBudget (le-trans most enough) .0),
+      most,
+      settled,
     )
 
 -- what an answered run tells, for callers that go by the answer

@@ -4,13 +4,13 @@ use mathlib.Core.Bool.{Bool, true}
 use mathlib.Core.List.{List, _∷_, _++_}
 use lib.Dec.{T, lit≤}
 use lib.Ieee.{Float}
+use Rattle.double.proofs.Laws.Negated.{sized-neg}
 use Rattle.double.proofs.Laws.Roundoff.{factors-reach}
 use Rattle.point.specs.Accepted.{reach}
 use Rattle.point.proofs.Laws.Within.{Within, accepted-within}
 use Rattle.geometry.specs.Product.{pairOf, summandsOf}
 use Rattle.geometry.specs.Parts.{ExactProduct}
 use Rattle.geometry.specs.declared.product.Product.{Product}
-use Rattle.geometry.proofs.Laws.Product.{reach-neg}
 use Rattle.geometry.proofs.product.summands.Statement.{statement}
 use Rattle.geometry.proofs.product.summands.Tie as tie
 use Rattle.geometry.proofs.product.summands.Reads as reads
@@ -36,17 +36,17 @@ exact-product-requires c κs = factors-reach reach (lit≤ tt) (q-within c .x) (
 exact-product-requires-2 : tie.Need-exact-product-requires-2
 exact-product-requires-2 c κs =
     let s = c .before .before in
-    factors-reach reach (lit≤ tt) (reach-neg reach _ (q-within s .x)) (p-within s .y)
+    factors-reach reach (lit≤ tt) (sized-neg (q-within s .x)) (p-within s .y)
 
 exact-product-requires-3 : tie.Need-exact-product-requires-3
 exact-product-requires-3 c κs =
     let s = c .before .before .before .before in
-    factors-reach reach (lit≤ tt) (reach-neg reach _ (p-within s .x)) (r-within s .y)
+    factors-reach reach (lit≤ tt) (sized-neg (p-within s .x)) (r-within s .y)
 
 exact-product-requires-4 : tie.Need-exact-product-requires-4
 exact-product-requires-4 c κs =
     let s = c .before .before .before .before .before .before in
-    factors-reach reach (lit≤ tt) (reach-neg reach _ (q-within s .y)) (r-within s .x)
+    factors-reach reach (lit≤ tt) (sized-neg (q-within s .y)) (r-within s .x)
 
 exact-product-requires-5 : tie.Need-exact-product-requires-5
 exact-product-requires-5 c κs =

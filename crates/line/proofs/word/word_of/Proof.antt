@@ -40,11 +40,16 @@ unfolding wordOf
 returns-8 c = sym (ap wordOf (c .if8 .taken))
 
 returns-9 : tie.Need-returns-9
-returns-9 c =
-    let four = c .before .before .before .before in
+unfolding wordOf
+returns-9 c = sym (ap wordOf (c .if9 .taken))
+
+returns-10 : tie.Need-returns-10
+returns-10 c =
+    let five = c .before .before .before .before in
+    let four = five .before in
     let s = four .before .before .before .before .args .letters in
     word-none s (four .before .before .before .if1 .left) (four .before .before .if2 .left) (four .before .if3 .left) (four .if4 .left)
-    (c .before .before .before .if5 .left) (c .before .before .if6 .left) (c .before .if7 .left) (c .if8 .left)
+    (five .if5 .left) (c .before .before .before .if6 .left) (c .before .before .if7 .left) (c .before .if8 .left) (c .if9 .left)
 
 pub word-of-spec : {M : Type 1} → statement M
 word-of-spec =
@@ -58,4 +63,5 @@ word-of-spec =
     returns-6
     returns-7
     returns-8
-    returns-9)
+    returns-9
+    returns-10)
