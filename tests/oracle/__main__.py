@@ -21,6 +21,7 @@ What the protocol leaves to its words, as read here:
 import sys
 
 import doubles
+import meetings
 import planes
 import sides
 import sums
@@ -37,6 +38,7 @@ ANSWERS = {
     b"side": sides.answer_side,
     b"zone": zones.answer_zone,
     b"plane": planes.answer_plane,
+    b"meet": meetings.answer_meet,
     b"write": tracks.answer_write,
     b"read": tracks.answer_read,
 }

@@ -3,7 +3,7 @@
 from itertools import permutations
 
 from questions.doubles import any_number, any_significand, float_of, moved, pattern_of
-from questions.lines import with_damaged
+from questions.lines import misspelled, with_damaged
 from questions.points import (
     any_coordinate, asked_of, chopped, ends_of, grid_point, patterns, refused_of, replaced, scaled, with_bits,
 )
@@ -42,17 +42,7 @@ NOTABLE = [
     [(MOST, MOST, MOST), (-MOST, MOST, MOST), (MOST, -MOST, MOST), (LEAST, LEAST, LEAST)],
 ]
 
-ONE = b" 3ff0000000000000"
-INFINITY = b" 7ff0000000000000"
-
-UNCLEAR = (
-    b"plane", b"plane ", b"plane" + 11 * ONE, b"plane" + 13 * ONE, b"plane" + 6 * ONE, b"plane" + 24 * ONE,
-    b"plane" + 12 * ONE + b" ", b"plane " + 12 * ONE, b"plane" + 12 * b" 0", b"plane 12" + 12 * ONE,
-    b"Plane" + 12 * ONE, b"plan" + 12 * ONE, b"planes" + 12 * ONE, b"plane" + 11 * INFINITY,
-    b"plane" + 11 * INFINITY + b" x", b"plane" + 11 * INFINITY + INFINITY[:-1], b"plane" + 12 * INFINITY + b" x",
-    b"plane" + 13 * INFINITY,
-    b"plane" + 1100 * ONE, b"plane" + 1112 * ONE, b"plane" + 2200 * INFINITY + b" x",
-)
+UNCLEAR = misspelled(b"plane", PLACES, (6, 24), (b"Plane", b"plan", b"planes"))
 
 
 def questions(random):

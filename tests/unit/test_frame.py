@@ -16,7 +16,7 @@ UNCLEAR = [
     b"Apart 3ff0000000000000", b"apart 3ff000000000000", b"apart 03ff0000000000000", b"apart 3ff000000000000g",
     b"a" * 100_000, b" " * 100_000,
     b"run", b"run ", b"run 01", b"run 4294967296", b"ceiling ", b"plain 0", b"side", b"zone", b"zone 3ff0000000000000",
-    b"plane", b"plane" + 11 * b" 3ff0000000000000",
+    b"plane", b"plane" + 11 * b" 3ff0000000000000", b"meet", b"meet" + 7 * b" 3ff0000000000000",
     b"write", b"write 10301", b"read", b"read 0 ", b"read 1101", b"read 0 0", b"read 0 00 00",
 ]
 
@@ -39,6 +39,8 @@ ANSWERED = [
     (b"zone 3ff0000000000000 3ff0000000000000", b"refused 4 0"),
     (b"plane" + 12 * b" 3ff0000000000000", b"plane 0 12"),
     (b"plane" + 11 * b" 3ff0000000000000" + b" 7ff0000000000000", b"refused 3 11"),
+    (b"meet" + 8 * b" 3ff0000000000000", b"meet touching"),
+    (b"meet" + 7 * b" 3ff0000000000000" + b" 7ff0000000000000", b"refused 3 7"),
     (b"write 10300", b"write 1 00"),
     (b"read 1100 00", b"read 0"),
     (b"read 0", b"refused 6 0"),

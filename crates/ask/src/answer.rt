@@ -1,6 +1,7 @@
 // The reply to each whole line.
 use crate::held::Bytes;
 use crate::held::List;
+use crate::meetings;
 use crate::numbers;
 use crate::part::first;
 use crate::planes;
@@ -52,6 +53,7 @@ fn looked(word: Word, list: &[f64]) -> Reply {
         Word::Side => sides::side(list),
         Word::Zone => sides::zone(list),
         Word::Plane => planes::plane(list),
+        Word::Meet => meetings::meet(list),
         Word::Run | Word::Write | Word::Read => reply::unclear(),
     }
 }

@@ -1,6 +1,7 @@
 // The line tool: reads questions from standard input, one to a line, and writes one answer line for each, in order, until the input ends.
 mod answer;
 mod held;
+mod meetings;
 mod numbers;
 mod out;
 mod part;

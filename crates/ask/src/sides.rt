@@ -11,7 +11,7 @@ use point::Point;
 ghost use Prim.Native.Nat.{_+_, _<_};
 ghost use lib.ListN.{length};
 
-fn point_at(list: &[f64], i: usize) -> Point
+pub fn point_at(list: &[f64], i: usize) -> Point
     requires { ⌜ i + 1 < length (now list) ⌝ }
 {
     Point {

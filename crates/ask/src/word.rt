@@ -1,4 +1,4 @@
-// The words of answers: each is a row of ten letters, filled up with spaces.
+// The words of answers: each is a row of eleven letters, filled up with spaces.
 pub const APART: usize = 0;
 
 pub const RUN: usize = 1;
@@ -13,53 +13,65 @@ pub const ZONE: usize = 5;
 
 pub const PLANE: usize = 6;
 
-pub const WRITE: usize = 7;
+pub const MEET: usize = 7;
 
-pub const READ: usize = 8;
+pub const WRITE: usize = 8;
 
-pub const REFUSED: usize = 9;
+pub const READ: usize = 9;
 
-pub const UNCLEAR: usize = 10;
+pub const REFUSED: usize = 10;
 
-pub const UNDECIDED: usize = 11;
+pub const UNCLEAR: usize = 11;
 
-pub const OUTSIDE: usize = 12;
+pub const UNDECIDED: usize = 12;
 
-pub const INSIDE: usize = 13;
+pub const OUTSIDE: usize = 13;
 
-pub const BORDER: usize = 14;
+pub const INSIDE: usize = 14;
 
-pub const MINUS: usize = 15;
+pub const BORDER: usize = 15;
 
-pub const ZERO: usize = 16;
+pub const TOUCHING: usize = 16;
 
-pub const PLUS: usize = 17;
+pub const CROSSING: usize = 17;
+
+pub const OVERLAPPING: usize = 18;
+
+pub const MINUS: usize = 19;
+
+pub const ZERO: usize = 20;
+
+pub const PLUS: usize = 21;
 
 // No word.
-pub const NONE: usize = 18;
+pub const NONE: usize = 22;
 
 // The most letters of a word.
-pub const LETTERS: usize = 10;
+pub const LETTERS: usize = 11;
 
 const ROWS: [[u8; LETTERS]; NONE] = [
-    *b"apart     ",
-    *b"run       ",
-    *b"ceiling   ",
-    *b"plain     ",
-    *b"side      ",
-    *b"zone      ",
-    *b"plane     ",
-    *b"write     ",
-    *b"read      ",
-    *b"refused   ",
-    *b"unclear   ",
-    *b"undecided ",
-    *b"outside   ",
-    *b"inside    ",
-    *b"border    ",
-    *b"-1        ",
-    *b"0         ",
-    *b"1         ",
+    *b"apart      ",
+    *b"run        ",
+    *b"ceiling    ",
+    *b"plain      ",
+    *b"side       ",
+    *b"zone       ",
+    *b"plane      ",
+    *b"meet       ",
+    *b"write      ",
+    *b"read       ",
+    *b"refused    ",
+    *b"unclear    ",
+    *b"undecided  ",
+    *b"outside    ",
+    *b"inside     ",
+    *b"border     ",
+    *b"touching   ",
+    *b"crossing   ",
+    *b"overlapping",
+    *b"-1         ",
+    *b"0          ",
+    *b"1          ",
 ];
 
 // A letter of a word by its index, or a space behind the last one.

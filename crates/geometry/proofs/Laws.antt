@@ -9,8 +9,6 @@ pub mod Summands
 pub mod Exact
 -- the side: its sign, stage and steps, its refusals, and no two results
 pub mod Side
--- comparisons of doubles by what they are worth
-pub mod Worths
 -- the points of a flat list
 pub mod Corners
 -- the edges of a zone, and one edge and a point
@@ -25,6 +23,8 @@ pub mod Answered
 pub mod Located
 -- the demands, of whatever keeps the promises of `side` and `zone`: what callers cite
 pub mod Calls
+-- the same of `sign`
+pub mod SignCalls
 -- entries stored one after the other
 pub mod Opening
 -- products of three coordinates, each opened into four summands

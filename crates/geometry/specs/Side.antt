@@ -1,4 +1,4 @@
--- The side of r against the line from p to q: three stages, and the refusals of `side`.
+-- The side of r against the line from p to q: three stages, and the refusals of `side`; and its sign alone.
 use Prim.Native.Nat.{ℕ}
 use mathlib.Core.Path.{_≡_}
 use mathlib.Core.List.{List, [], _∷_}
@@ -7,7 +7,9 @@ use lib.Ieee.{Float}
 use Rattle.refusal.specs.Outcome.{Outcome, answers, refuses}
 use Rattle.refusal.specs.Search.{passingFrom}
 use Rattle.point.specs.declared.Point.{Point}
+use Rattle.whole.specs.Sign.{sgn}
 use Rattle.point.specs.Accepted.{acceptedWithin, acceptingFrom}
+use Rattle.point.specs.Spot.{determinant}
 use Rattle.sum.specs.Total.{signNumber}
 use Rattle.sum.specs.Run.{Decision, sign, undecided, Told, runOf, mostBudget}
 use Rattle.side_filter.specs.declared.answer.Early.{Early}
@@ -17,6 +19,8 @@ use Rattle.geometry.specs.Product.{summandsOf}
 use Rattle.geometry.specs.declared.answer.Turn.{Turn}
 use Rattle.geometry.specs.declared.answer.Side.{Side}
 use Rattle.geometry.specs.declared.answer.Side.the-variants.{Of, Refused}
+use Rattle.geometry.specs.declared.answer.SideSign.{SideSign}
+use Rattle.geometry.specs.declared.answer.SideSign.the-variants.{Of as SignOf, Refused as SignRefused}
 
 -- Side 2: the sign, the stage that found it, and the steps: 0 in stages 1 and 2
 pub record Turned : Type 0 where
@@ -78,3 +82,18 @@ SideSays p q r s = said s ≡ sideOf p q r
 -- Side 14: the most steps of a side; that they are never more is a law (Laws.Calls)
 abbrev pub mostSteps : ℕ
 mostSteps = 480
+
+-- ---- the sign alone
+
+unfoldable pub signSaid : SideSign → Outcome ℤ
+signSaid (SignOf s) = answers (signNumber s)
+signSaid (SignRefused r) = refuses (r .number) (r .place)
+
+-- Side 15: the sign of the exact determinant; refused as a side is (Order 5)
+unfoldable pub signOf : Point → Point → Point → Outcome ℤ
+unfolding passingFrom acceptedWithin
+signOf p q r = acceptingFrom 0 (sixOf p q r) (sgn (determinant p q r))
+
+-- the promise of `sign`
+abbrev pub SignSays : Point → Point → Point → SideSign → Type 0
+SignSays p q r s = signSaid s ≡ signOf p q r

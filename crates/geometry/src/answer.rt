@@ -15,6 +15,13 @@ pub enum Side {
     Refused(Refusal),
 }
 
+// The sign of the determinant alone.
+pub enum SideSign {
+    Of(Sign),
+    // Refusal 3, places as the side's.
+    Refused(Refusal),
+}
+
 pub enum Place {
     Outside,
     // On the edge of this number, the first one in order.

@@ -1,4 +1,4 @@
-// The side of a point, the zone, and the side of a plane.
+// The side of a point, its sign alone, the zone, and the side of a plane.
 //
 // No public function has a `requires`. What lies inside is private: the exact product, and the side of accepted points.
 pub mod answer;
@@ -13,4 +13,5 @@ mod zones;
 
 pub use planes::plane;
 pub use sides::side;
+pub use sides::sign;
 pub use zones::zone;

@@ -1,7 +1,8 @@
 // The side of a point, for all doubles.
 ghost use mathlib.Core.Path.{_≡_};
-ghost use Rattle.geometry.specs.Side.{SideSays};
+ghost use Rattle.geometry.specs.Side.{SideSays, SignSays};
 use crate::answer::Side;
+use crate::answer::SideSign;
 use crate::turning::turn;
 use point::Point;
 use point::accepted;
@@ -40,4 +41,17 @@ pub fn side(p: Point, q: Point, r: Point) -> Side
         return refused(5);
     }
     Side::Of(turn(p, q, r))
+}
+
+// The sign of the exact determinant alone, with the side's refusals: for callers that need no stage and plan no steps.
+pub fn sign(p: Point, q: Point, r: Point) -> SideSign
+    ensures { λ s. ⌜ SignSays p q r s ⌝ }
+{
+    match side(p, q, r) {
+        Side::Of(t) => {
+            let s = t.sign;
+            SideSign::Of(s)
+        }
+        Side::Refused(f) => SideSign::Refused(f),
+    }
 }

@@ -1,7 +1,7 @@
--- Which of two whole numbers is less, and which sign one has, as tests.
+-- Which of two whole numbers is less, whether they are equal, and which sign one has, as tests.
 use Prim.Native.Nat.{zero, suc}
 use mathlib.Core.Bool.{Bool, true, false}
-use lib.Dec.{leb, ltb}
+use lib.Dec.{leb, ltb, eqb}
 use lib.IntN.{ℤ, pos, negsuc}
 
 -- a is at most b; `negsuc n` is -(n+1)
@@ -17,6 +17,13 @@ below (pos m) (pos n) = ltb m n
 below (pos m) (negsuc n) = false
 below (negsuc m) (pos n) = true
 below (negsuc m) (negsuc n) = ltb n m
+
+-- a is b
+unfoldable pub equal : ℤ → ℤ → Bool
+equal (pos m) (pos n) = eqb m n
+equal (pos m) (negsuc n) = false
+equal (negsuc m) (pos n) = false
+equal (negsuc m) (negsuc n) = eqb m n
 
 abbrev pub isZero : ℤ → Bool
 isZero (pos zero) = true

@@ -7,3 +7,5 @@ pub mod Relisted
 pub mod Joined
 -- the plane: equal by value, two points exchanged or equal, equal heights, a ball above or below
 pub mod Planes
+-- the meeting of two pieces: equal by value, exchanged, turned round
+pub mod Meetings

@@ -1,2 +1,3 @@
--- What a reader must believe of these laws beyond `ground` and `geometry`: corners as they are lent.
+-- What a reader must believe of these laws beyond `ground`, `geometry`, `pieces` and `meeting`: corners as they are lent; a piece turned round.
 pub mod Corners
+pub mod Pieces

@@ -9,6 +9,7 @@ pub enum Word {
     Side,
     Zone,
     Plane,
+    Meet,
     Write,
     Read,
 }

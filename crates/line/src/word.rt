@@ -32,6 +32,8 @@ const ZONE: u64 = 0x7A6F_6E65;
 
 const PLANE: u64 = 0x706C_616E_65;
 
+const MEET: u64 = 0x6D65_6574;
+
 const WRITE: u64 = 0x7772_6974_65;
 
 const READ: u64 = 0x7265_6164;
@@ -76,6 +78,9 @@ pub fn word_of(letters: u64) -> Known
     if letters == PLANE {
         return Known::Word(Word::Plane);
     }
+    if letters == MEET {
+        return Known::Word(Word::Meet);
+    }
     if letters == WRITE {
         return Known::Word(Word::Write);
     }
@@ -96,6 +101,7 @@ pub fn form_of(word: Word) -> Form
         Word::Side => Form::Doubles,
         Word::Zone => Form::Doubles,
         Word::Plane => Form::Doubles,
+        Word::Meet => Form::Doubles,
         Word::Write => Form::Counted,
         Word::Read => Form::File,
     }

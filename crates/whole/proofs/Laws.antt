@@ -8,7 +8,7 @@ pub mod Ring
 pub mod Linear
 -- when `sgn` has each of its values; of a product, of a difference
 pub mod Sign
--- the order is total; products of positive numbers
+-- the order is total; products of positive numbers; a positive factor left out
 pub mod Order
 -- `ints` and `solve` in use: the determinant of three points
 mod Examples

@@ -8,8 +8,10 @@ use native.Mathlib.Numerals.{add-one}
 use native.Mathlib.Omega.{arith}
 use lib.Dec.{ltb}
 use lib.ListN.{length, drop, length-map}
-use lib.Ieee.{Float, lt, le}
+use lib.Ieee.{Float, binary64, lt, le}
 use borrow.Author.Tests.{ltb-true, ltb-false}
+use Rattle.double.specs.Worth.{worth}
+use Rattle.double.proofs.Laws.Units.{Real}
 use Rattle.point.specs.declared.Point.{Point}
 use Rattle.point.specs.Spot.{spotOf}
 use Rattle.whole.specs.Sign.{sgn}
@@ -22,7 +24,7 @@ use Rattle.ground.proofs.Laws.Compare.{below-not, sgn-is-zero, sgn-is-positive,
 use Rattle.geometry.specs.Parts.{liesBetween, InBox, Rises, Falls, crossingOf}
 use Rattle.geometry.specs.Zone.{pointsOf, cornersOf, cornerAt, nextOf}
 use Rattle.geometry.proofs.Laws.Corners.{corners-count, corner-later}
-use Rattle.geometry.proofs.Laws.Worths.{RealPoint, le-worth, lt-worth, between-worth}
+use Rattle.point.proofs.Laws.Worths.{RealPoint, le-worth, lt-worth}
 use Rattle.geometry.specs.declared.edges.Crossing.{Crossing}
 use Rattle.geometry.specs.declared.edges.Crossing.the-variants.{None, Up, Down}
 
@@ -110,6 +112,13 @@ module _ (a b v : Float) where
 
   pub between-not : (le a v && le v b) ≡ false → le b v ≡ false → false ≡ liesBetween a b v
   between-not h k = sym (ap₂ (λ (p q : Bool). p || (q && le v a)) h k)
+
+between-worth : (a b v : Float) → Real binary64 a → Real binary64 b → Real binary64 v
+    → liesBetween a b v ≡ between (worth a) (worth b) (worth v)
+between-worth a b v ra rb rv =
+    ap₂ (λ (s t : Bool). s || t)
+    (ap₂ (λ (s t : Bool). s && t) (le-worth a v ra rv) (le-worth v b rv rb))
+    (ap₂ (λ (s t : Bool). s && t) (le-worth b v rb rv) (le-worth v a rv ra))
 
 -- ---- on an edge
 middle-fails : (a b c : Bool) → b ≡ false → false ≡ (a && (b && c))

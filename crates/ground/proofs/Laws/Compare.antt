@@ -1,17 +1,18 @@
--- The tests of order and of sign against the order of `whole`. In order: what `atMost` and `below` say; each is not the other, turned round;
--- both as tests of the two parts of a difference, naturals; the test of a sign is that of its number, and of an opposite the other one.
+-- The tests of order and of sign against the order of `whole`. In order: what `atMost`, `below` and `equal` say; of the first two each is not the
+-- other, turned round; all as tests of the two parts of a difference, naturals; the test of a sign is that of its number, and of an opposite
+-- the other one.
 -- Not here: tests of points (`Edges`). Assumes nothing.
-use mathlib.Core.Path.{_≡_, refl, sym, subst}
+use mathlib.Core.Path.{_≡_, refl, sym, ap, subst}
 use mathlib.Core.Bool.{Bool, true, false, not}
 use mathlib.Core.Logic.{_↔_, Iff·rfl}
 use Prim.Native.Nat.{ℕ, zero, suc, _+_, _≤_, _<_}
-use lib.Dec.{T, leb, ltb}
+use lib.Dec.{T, leb, ltb, eqb}
 use lib.IntN.{ℤ, pos, negsuc, negℤ}
-use borrow.Author.Tests.{ltb-true, leb-true, leb-false, lt-ltb, le-ltb, le-leb}
+use borrow.Author.Tests.{ltb-true, leb-true, leb-false, lt-ltb, le-ltb, le-leb, eqb-true, eq-eqb}
 use Rattle.whole.specs.Order.{_≤ᶻ_, _<ᶻ_}
 use Rattle.whole.specs.Sign.{sgn}
-use Rattle.whole.proofs.Laws.Parts.{up, dn, ≤-parts, <-parts}
-use Rattle.ground.specs.Compare.{atMost, below, isZero, isPositive, isNegative}
+use Rattle.whole.proofs.Laws.Parts.{up, dn, ≤-parts, <-parts, ≡-parts}
+use Rattle.ground.specs.Compare.{atMost, below, equal, isZero, isPositive, isNegative}
 
 -- ---- what the tests say
 
@@ -32,6 +33,16 @@ below-says (pos m) (pos n) = ((λ e. record { lt = true-told (ltb m n) .0 e }), 
 below-says (pos m) (negsuc n) = ((λ e. record { lt = true-told false .0 e }), (λ h. absurd (h .lt)))
 below-says (negsuc m) (pos n) = ((λ e. record { lt = tt }), (λ h. refl))
 below-says (negsuc m) (negsuc n) = ((λ e. record { lt = true-told (ltb n m) .0 e }), (λ h. true-told (ltb n m) .1 (h .lt)))
+
+eqb-says : (m n : ℕ) → (eqb m n ≡ true) ↔ (m ≡ n)
+eqb-says m n = (eqb-true m n, eq-eqb m n)
+
+pub equal-says : (a b : ℤ) → (equal a b ≡ true) ↔ (a ≡ b)
+unfolding equal
+equal-says (pos m) (pos n) = ((λ e. ap pos (eqb-true m n e)), (λ e. eq-eqb m n (cc)))
+equal-says (pos m) (negsuc n) = ((λ e. absurd (true-told false .0 e)), (λ e. cc))
+equal-says (negsuc m) (pos n) = ((λ e. absurd (true-told false .0 e)), (λ e. cc))
+equal-says (negsuc m) (negsuc n) = ((λ e. ap negsuc (eqb-true m n e)), (λ e. eq-eqb m n (cc)))
 
 -- ---- each is not the other, turned round
 
@@ -68,6 +79,9 @@ module _ (a b : ℤ) where
 
   pub below-parts : below a b ≡ ltb (up a + dn b) (up b + dn a)
   below-parts = same-test (below a b) (ltb (up a + dn b) (up b + dn a)) (simp (below-says, <-parts, ltb-says) Iff·rfl)
+
+  pub equal-parts : equal a b ≡ eqb (up a + dn b) (up b + dn a)
+  equal-parts = same-test (equal a b) (eqb (up a + dn b) (up b + dn a)) (simp (equal-says, ≡-parts, eqb-says) Iff·rfl)
 
 -- ---- signs
 

@@ -7,7 +7,7 @@ use Prim.Native.String.{String, [] as []ˢ, _∷_ as _∷ˢ_}
 use Rattle.line.specs.Numeral.{digitOf, onward, patternOf, countOf}
 use Rattle.line.specs.Word.{wordOf}
 use Rattle.line.specs.Line.{Meaning, copied, unclear, ofDoubles, ofFile, firstOf, laterOf, doublesOf, bytesOf, nameOf, meaningOf}
-use Rattle.line.specs.declared.answer.Word.the-variants.{Apart, Run, Plain, Side, Plane}
+use Rattle.line.specs.declared.answer.Word.the-variants.{Apart, Run, Plain, Side, Plane, Meet}
 
 abbrev codes : String → List ℕ
 codes []ˢ = []
@@ -22,8 +22,9 @@ copied-lines = (refl, refl, refl)
 
 words : asks "apart" (ofDoubles Apart 0 []) × asks "apart " unclear × asks " apart" unclear × asks "apar" unclear
     × asks "apartapart" unclear × asks "plain" (ofDoubles Plain 0 []) × asks "plane" (ofDoubles Plane 0 [])
+    × asks "meet" (ofDoubles Meet 0 [])
 unfolding meaningOf firstOf laterOf nameOf wordOf doublesOf patternOf onward digitOf
-words = (refl, refl, refl, refl, refl, refl, refl)
+words = (refl, refl, refl, refl, refl, refl, refl, refl)
 
 counts : asks "run 0" (ofDoubles Run 0 []) × asks "run" unclear × asks "run 01" unclear
     × asks "run 4294967295" (ofDoubles Run 0xFFFF_FFFF []) × asks "run 4294967296" unclear × asks "run -1" unclear

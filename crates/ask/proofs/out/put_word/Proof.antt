@@ -12,7 +12,7 @@ abbrev Inv-loop : tie.InvT-loop
 Inv-loop out₀ len word n₀ i₀ out n i = Unit
 
 abbrev μ-loop : tie.MeasureT-loop
-μ-loop out₀ len word n₀ i₀ out n i = 10 - i
+μ-loop out₀ len word n₀ i₀ out n i = 11 - i
 
 loop-holds : tie.Need-loop-holds Inv-loop μ-loop
 loop-holds c = search needs

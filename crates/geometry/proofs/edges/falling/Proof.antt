@@ -13,7 +13,7 @@ use Rattle.ground.specs.Edge.{edge}
 use Rattle.geometry.specs.Parts.{crossingOf}
 use Rattle.geometry.specs.declared.edges.Crossing.the-variants.{None, Down}
 use Rattle.geometry.proofs.Laws.Side.{turn-said-sign}
-use Rattle.geometry.proofs.Laws.Worths.{within-point}
+use Rattle.point.proofs.Laws.Worths.{within-point}
 use Rattle.geometry.proofs.Laws.Edges.{crossing-falling}
 use Rattle.geometry.proofs.edges.falling.Statement.{statement}
 use Rattle.geometry.proofs.edges.falling.Tie as tie

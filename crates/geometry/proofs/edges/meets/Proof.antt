@@ -10,7 +10,7 @@ use Rattle.sum.specs.declared.answer.Sign.{Sign}
 use Rattle.ground.specs.Compare.{isZero}
 use Rattle.ground.specs.Edge.{edge, onEdge}
 use Rattle.geometry.proofs.Laws.Side.{turn-said-sign}
-use Rattle.geometry.proofs.Laws.Worths.{within-point}
+use Rattle.point.proofs.Laws.Worths.{within-point}
 use Rattle.geometry.proofs.Laws.Edges.{edge-met}
 use Rattle.geometry.proofs.edges.meets.Statement.{statement}
 use Rattle.geometry.proofs.edges.meets.Tie as tie

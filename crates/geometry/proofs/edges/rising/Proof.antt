@@ -13,7 +13,7 @@ use Rattle.ground.specs.Edge.{edge}
 use Rattle.geometry.specs.Parts.{crossingOf}
 use Rattle.geometry.specs.declared.edges.Crossing.the-variants.{None, Up}
 use Rattle.geometry.proofs.Laws.Side.{turn-said-sign}
-use Rattle.geometry.proofs.Laws.Worths.{within-point}
+use Rattle.point.proofs.Laws.Worths.{within-point}
 use Rattle.geometry.proofs.Laws.Edges.{crossing-rising}
 use Rattle.geometry.proofs.edges.rising.Statement.{statement}
 use Rattle.geometry.proofs.edges.rising.Tie as tie

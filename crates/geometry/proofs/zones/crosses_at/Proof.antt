@@ -10,7 +10,7 @@ use Rattle.point.specs.Spot.{spotOf}
 use Rattle.geometry.specs.Zone.{cornerAt}
 use Rattle.ground.specs.Edge.{edge}
 use Rattle.geometry.specs.Parts.{Rises, Falls, crossingOf}
-use Rattle.geometry.proofs.Laws.Worths.{RealPoint, accepted-point}
+use Rattle.point.proofs.Laws.Worths.{RealPoint, accepted-point}
 use Rattle.geometry.proofs.Laws.Edges.{crossing-under, crossing-over}
 use Rattle.geometry.proofs.zones.crosses_at.Statement.{statement}
 use Rattle.geometry.proofs.zones.crosses_at.Tie as tie

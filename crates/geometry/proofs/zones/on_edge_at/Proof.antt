@@ -11,7 +11,7 @@ use Rattle.point.specs.Spot.{spotOf}
 use Rattle.geometry.specs.Zone.{cornerAt}
 use Rattle.ground.specs.Edge.{edge, onEdge}
 use Rattle.geometry.specs.Parts.{liesBetween, InBox}
-use Rattle.geometry.proofs.Laws.Worths.{RealPoint, accepted-point}
+use Rattle.point.proofs.Laws.Worths.{RealPoint, accepted-point}
 use Rattle.geometry.proofs.Laws.Edges.{edge-apart-x, edge-apart-y}
 use Rattle.geometry.proofs.zones.on_edge_at.Statement.{statement}
 use Rattle.geometry.proofs.zones.on_edge_at.Tie as tie

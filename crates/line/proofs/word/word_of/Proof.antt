@@ -44,12 +44,17 @@ unfolding wordOf
 returns-9 c = sym (ap wordOf (c .if9 .taken))
 
 returns-10 : tie.Need-returns-10
-returns-10 c =
-    let five = c .before .before .before .before in
-    let four = five .before in
-    let s = four .before .before .before .before .args .letters in
-    word-none s (four .before .before .before .if1 .left) (four .before .before .if2 .left) (four .before .if3 .left) (four .if4 .left)
-    (five .if5 .left) (c .before .before .before .if6 .left) (c .before .before .if7 .left) (c .before .if8 .left) (c .if9 .left)
+unfolding wordOf
+returns-10 c = sym (ap wordOf (c .if10 .taken))
+
+returns-11 : tie.Need-returns-11
+returns-11 c =
+    let six = c .before .before .before .before in
+    let two = six .before .before .before .before in
+    let s = two .before .before .args .letters in
+    word-none s (two .before .if1 .left) (two .if2 .left) (six .before .before .before .if3 .left) (six .before .before .if4 .left)
+    (six .before .if5 .left) (six .if6 .left) (c .before .before .before .if7 .left) (c .before .before .if8 .left) (c .before .if9 .left)
+    (c .if10 .left)
 
 pub word-of-spec : {M : Type 1} → statement M
 word-of-spec =
@@ -64,4 +69,5 @@ word-of-spec =
     returns-7
     returns-8
     returns-9
-    returns-10)
+    returns-10
+    returns-11)
