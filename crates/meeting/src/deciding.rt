@@ -43,7 +43,7 @@ fn by_end(x: Range, y: Range, p: Point) -> Meeting
     Meeting::Apart
 }
 
-// The same, by both ends of a; the first of them lies on the side w of b.
+// The ends of b are on opposite sides of a's line: by both ends of a, the first of which is on the side w of b.
 fn by_both(a: Piece, b: Piece, w: Sign) -> Meeting
     requires { ⌜ AcceptedPiece a × AcceptedPiece b × SideIs b (a .from) w ⌝ }
     ensures { λ m. ⌜ meetingSaid m ≡ found.through (edgeOf a) (edgeOf b) ⌝ }
