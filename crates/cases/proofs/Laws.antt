@@ -1,2 +1,3 @@
--- The proof.
+-- The proofs.
 pub mod Cases
+pub mod Products

@@ -23,31 +23,23 @@ pub mod Difference
 pub mod Step
 -- a value against a count times another, rounded
 pub mod Decision
--- differences and products at a scale: values as significands times a power of two
-pub mod Scaled
--- a significand cut into a high and a low half (Veltkamp), and the product's roundoff from the halves (Dekker), in numbers
-pub mod Halves
--- a double split into a high and a low half (Veltkamp)
-pub mod Splitting
--- the roundoff of a product from the halves, by four differences (Dekker)
-pub mod Dekker
--- the sign bit of a product
-pub mod ProductSign
--- a double as a significand of 53 digits, with its halves
-pub mod Significand
--- the exact product: the rounded product and its roundoff
-pub mod ExactProduct
 -- grains and bounds of doubles, kept by differences and products
 pub mod Sized
 -- negations, exactly: of a factor, of what is worth, and as 0.0 - x
 pub mod Negated
--- what callers of the exact product cite: for whom it holds, by parts, in ℤ, and how large the roundoff is
-pub mod Roundoff
 -- the double of a bit pattern
 pub mod Pattern
 -- a double taken apart
 pub mod Apart
+-- a whole number times powers of two, as a double
+pub mod Made
+-- what a product of two significands, rounded to 53 digits, lacks, in whole numbers
+pub mod Lacking
+-- the exact product: the rounded product, and what it lacks, as a double
+pub mod ExactProduct
+-- the same from significands and exponents
+pub mod LastPlace
+-- what callers of the exact product cite: for whom it holds, and how large the roundoff is
+pub mod Roundoff
 -- real doubles, worked through
 mod Examples
--- products and the filter on real doubles, worked through
-mod ProductExamples

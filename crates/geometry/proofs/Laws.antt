@@ -1,6 +1,8 @@
 -- The laws of the side of a point, of the zone and of the plane, each file over those above it.
 -- the exact product, and for whom it holds
 pub mod Product
+-- the roundoff as the code finds it
+pub mod Cut
 -- a run to its end: it decides
 pub mod ToTheEnd
 -- the twelve summands: their total is the determinant

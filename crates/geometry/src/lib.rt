@@ -7,6 +7,7 @@ pub mod limit;
 mod opening;
 mod planes;
 mod product;
+mod roundoff;
 mod sides;
 mod turning;
 mod zones;

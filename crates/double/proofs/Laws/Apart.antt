@@ -155,9 +155,24 @@ normal-parted (fin s m e) t u g h =
     let q = hidden-one p h in
     cc (p .sign-is, q .0, q .1)
 
+-- a finite double by its field: whether there is a hidden bit tells both parts
+abbrev pub Hides : Float → ℕ → Type 0
+Hides x hidden = ((field x ≡ 0) × (hidden ≡ 0)) ⊎ ((field x ≡ 0 → ⊥) × (hidden ≡ 1))
+
+pub field-parts : (x : Float) (hidden : ℕ) → Real binary64 x → Hides x hidden
+    → (hidden * 2 ^ 52 + digits x ≡ significandOf (mag binary64 x)) × (field x - hidden ≡ exponentOf (mag binary64 x))
+field-parts nan hidden r h = absurd (r .fin)
+field-parts (inf s) hidden r h = absurd (r .fin)
+field-parts (fin s m e) hidden r (inl h) =
+    let p = hidden-none (finite-shows s m e (r .fit)) (h .0) in
+    (omega (arith, h .1, p .0), omega (arith, h .0, h .1, p .1))
+field-parts (fin s m e) hidden r (inr h) =
+    let p = hidden-one (finite-shows s m e (r .fit)) (h .0) in
+    (omega (arith, h .1, p .0), omega (arith, h .1, p .1))
+
 -- ---- what the answer means
 -- the significand and the exponent hold all of a magnitude of 53 digits
-significand-exact : (n : ℕ) → Rep 53 n → significandOf n * 2 ^ exponentOf n ≡ n
+pub significand-exact : (n : ℕ) → Rep 53 n → significandOf n * 2 ^ exponentOf n ≡ n
 unfolding significandOf exponentOf
 significand-exact n r = div-mul-cancel (2 ^ exponentOf n) r
 

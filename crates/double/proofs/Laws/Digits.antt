@@ -1,10 +1,11 @@
 -- Binary digits of whole numbers: `cut p n` counts the digits of n beyond the first p, `ulp p n` is the step between the numbers of
 -- p digits at n, and `Rep p n` says that n has at most p digits but for zeros at its end.
--- In order: powers of two as divisors, sizes, `Rep`. Not here: rounding (`Rounding`), and anything of floats. Assumes nothing.
-use mathlib.Core.Path.{_≡_, sym, ap, _∙_, subst}
+-- In order: distances, powers of two as divisors, sizes, `Rep`. Not here: rounding (`Rounding`), and anything of floats. Assumes nothing.
+use mathlib.Core.Path.{_≡_, sym, ap, ap₂, _∙_, subst}
 use mathlib.Core.Logic.{inl, inr}
 use Prim.Native.Nat.{ℕ, suc, _+_, _-_, _*_, _/_, _^_, _≤_, _<_, _∣_, zero-le}
 use native.Mathlib.Nat.{le-refl, le-trans, le-of-eq, le-of-lt, lt-of-lt-of-le, lt-of-le-of-lt, lt-of-not-le, not-le-of-lt, eq-or-lt-of-le}
+use native.Mathlib.Nat.{add-mul, mul-comm, mul-sub}
 use native.Mathlib.Nat.{add-zero, add-assoc, one-mul, suc-mul, mul-le-mul-right, lt-of-mul-lt-mul-right, div-add-mod', le-div-iff-mul-le}
 use native.Mathlib.Nat.{dvd-refl, dvd-trans, dvd-mul-left, dvd-mul-right, div-mul-cancel, mul-dvd-mul-right, le-of-suc-le-suc}
 use native.Mathlib.Omega.{arith}
@@ -27,6 +28,12 @@ Rep p n = ulp p n ∣ n
 -- the distance of two numbers
 abbrev pub gap : ℕ → ℕ → ℕ
 gap a b = (a - b) + (b - a)
+
+pub sub-mul : (a b l : ℕ) → (a - b) * l ≡ a * l - b * l
+sub-mul a b l = mul-comm (a - b) l ∙ mul-sub l a b ∙ ap₂ (λ (x y : ℕ). x - y) (mul-comm l a) (mul-comm l b)
+
+pub gap-mul : (a b l : ℕ) → gap a b * l ≡ gap (a * l) (b * l)
+gap-mul a b l = add-mul (a - b) (b - a) l ∙ ap₂ (λ (x y : ℕ). x + y) (sub-mul a b l) (sub-mul b a l)
 
 -- ---- powers of two as divisors
 pub pow-dvd : {i j : ℕ} → i ≤ j → 2 ^ i ∣ 2 ^ j
@@ -93,13 +100,6 @@ cut-full p n P c = size-reaches n (p - 1 + cut p n) (in-use (size n) p P c)
   where
     in-use : (z p : ℕ) → 0 < p → 0 < z - p → p - 1 + (z - p) < z
     in-use z p P h = omega arith
-
--- from 2 ^ (p - 1 + j) to 2 ^ (p + j) there are j of them
-pub cut-is : (p j n : ℕ) → 0 < p → 2 ^ (p - 1 + j) ≤ n → n < 2 ^ (p + j) → cut p n ≡ j
-cut-is p j n P a b = fit (size n) (size-gt n (p - 1 + j) a) (size-le n (p + j) b)
-  where
-    fit : (z : ℕ) → p - 1 + j < z → z ≤ p + j → z - p ≡ j
-    fit z a b = omega arith
 
 -- ---- `Rep`
 -- a multiple of 2 ^ j that is at most 2 ^ p times as much

@@ -1,12 +1,13 @@
 -- The product of two finite values, where it is a whole number Q of units: Q rounded, with the product's sign.
--- In order: `mul` as `ofUnits`; by the parts of either sign, finite; infinite.
+-- In order: products that are whole; `mul` as `ofUnits`; by the parts of either sign, finite; infinite.
 -- Not here: the roundoff of a product; a product that is no whole number of units. Assumes nothing.
 use mathlib.Core.Path.{_≡_, sym, ap, ap₂, _∙_, subst}
 use mathlib.Core.Bool.{Bool, true, false, not, cond}
 use mathlib.Core.Logic.{_⊎_, inl, inr}
-use Prim.Native.Nat.{ℕ, _*_, _^_, _≤_, _<_}
+use Prim.Native.Nat.{ℕ, _+_, _*_, _/_, _^_, _≤_, _<_, _∣_}
 use native.Mathlib.Nat.{not-le-of-lt, mul-assoc, mul-right-comm, mul-mul-mul-comm, mul-pos, zero-mul, mul-zero, eq-of-mul-eq-mul-right}
-use lib.Pow.{pow-pos}
+use native.Mathlib.Nat.{dvd-trans, dvd-mul-left, mul-dvd-mul, dvd-of-mul-dvd-mul-right, div-mul-cancel}
+use lib.Pow.{pow-add, pow-pos}
 use lib.Ieee.{Float, nan, inf, fin, Format, prec, low, up, down, unlike, mul}
 use lib.Ieee.Fits.{down-pos}
 use lib.Ieee.Scale.{overflow, round-same}
@@ -14,6 +15,20 @@ use Rattle.double.specs.Worth.{signBit, mag, ofUnits}
 use Rattle.double.proofs.Laws.Rounding.{rn, rn-zero}
 use Rattle.double.proofs.Laws.Units.{Real, Parts, mag-exact, ofUnits-parts, ofUnits-inf}
 use Rattle.double.proofs.Laws.Signed.{part, Split, split-of, ofUnits-split, part-only}
+
+-- ---- a product of multiples of 2 ^ k1 and 2 ^ k2, where k1 + k2 is k + l, is 2 ^ l times a multiple of 2 ^ k
+module _ (X Y k1 k2 k l : ℕ) (u : 2 ^ k1 ∣ X) (v : 2 ^ k2 ∣ Y) (e : k1 + k2 ≡ k + l) where
+  factor : 2 ^ k * 2 ^ l ∣ X * Y
+  factor =
+      subst (λ (z : ℕ). z ∣ X * Y) (sym (pow-add 2 k1 k2) ∙ ap (λ (z : ℕ). 2 ^ z) e ∙ pow-add 2 k l)
+      (mul-dvd-mul (2 ^ k1) (2 ^ k2) u v)
+
+  pub product-whole : X * Y ≡ X * Y / 2 ^ l * 2 ^ l
+  product-whole = sym (div-mul-cancel (2 ^ l) (dvd-trans (2 ^ l) (dvd-mul-left (2 ^ l) (2 ^ k)) factor))
+
+  pub product-grain : 2 ^ k ∣ X * Y / 2 ^ l
+  product-grain =
+      dvd-of-mul-dvd-mul-right {k = 2 ^ l} (2 ^ k) (pow-pos l) (subst (λ (z : ℕ). 2 ^ k * 2 ^ l ∣ z) product-whole factor)
 
 pub mul-whole : (f : Format) (x y : Float) (Q : ℕ) → Real f x → Real f y → mag f x * mag f y ≡ Q * 2 ^ low f
     → mul f x y ≡ ofUnits f (unlike (signBit x) (signBit y)) Q

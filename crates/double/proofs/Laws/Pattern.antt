@@ -1,4 +1,4 @@
--- A double and its bit pattern. In order: the patterns above infinity's are NaNs', the others are not; a NaN's pattern; no two results
+-- A double and its bit pattern. In order: the patterns above infinity's are NaNs', the others are not; a NaN's pattern, and which doubles are none; no two results
 -- satisfy either promise. Assumes nothing.
 use mathlib.Core.Path.{_≡_, refl, sym, ap, _∙_, subst}
 use mathlib.Core.Bool.{Bool, true, false, not}
@@ -6,6 +6,7 @@ use Prim.Native.Nat.{ℕ, _*_, _%_, _≤_, _<_}
 use lib.Dec.{T}
 use lib.Ieee.{Float, nan, inf, fin, binary64, isNan, ofBits, toBits, nanBits, ones, hid, top, ne}
 use lib.Ieee.Compare.{differs-from-itself}
+use lib.Ieee.Scale.{finite}
 use lib.Ieee.Bits.{nanBits-is, nanBits-above}
 use borrow.Author.Tests.{lt-ltb, le-ltb}
 use Rattle.refusal.specs.Outcome.{Fixes}
@@ -38,6 +39,12 @@ unfolding ne isNan
 number-of-itself nan h = absurd (subst T h tt)
 number-of-itself (inf s) h = tt
 number-of-itself (fin s m e) h = tt
+
+pub number-finite : (x : Float) → T (finite x) → T (not (isNan x))
+unfolding isNan
+number-finite nan h = h
+number-finite (inf s) h = tt
+number-finite (fin s m e) h = tt
 
 -- ---- no two results satisfy either promise
 pub from-pattern-fixed : (b : ℕ) → Fixes (FromPatternSays b)

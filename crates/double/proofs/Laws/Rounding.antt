@@ -16,7 +16,7 @@ use lib.Ieee.{size, nearest}
 use lib.Ieee.Digits.{size-lt, size-reaches}
 use lib.Ieee.Nearest.{closest, closest-same}
 use Rattle.double.proofs.Laws.Digits.{cut, ulp, Rep, gap, pow-dvd, dvd-lower, multiple-above, size-scale}
-use Rattle.double.proofs.Laws.Digits.{cut-enough, cut-full, cut-is}
+use Rattle.double.proofs.Laws.Digits.{cut-enough, cut-full}
 use Rattle.double.proofs.Laws.Digits.{rep-of, rep-small, rep-pow, rep-below, rep-above, rep-scale}
 
 unfoldable pub rn : ℕ → ℕ → ℕ
@@ -189,24 +189,6 @@ pub rn-error-of : (p n : ℕ) → 0 < p → gap (rn p n) n * 2 ^ p ≤ rn p n
 rn-error-of p n P =
     let k = p - 1 + cut p n in
     error-part p n (rn p n) P (λ c. rn-ge p n (2 ^ k) P (rep-pow p k P) (cut-full p n P c))
-
--- from 2 ^ (p - 1 + j) to 2 ^ (p + j) the step is 2 ^ j
-pub rn-at : (p j n : ℕ) → 0 < p → 2 ^ (p - 1 + j) ≤ n → n ≤ 2 ^ (p + j) → (2 ^ j ∣ rn p n) × (gap (rn p n) n * 2 ≤ 2 ^ j)
-rn-at p j n P a b = elim (eq-or-lt-of-le b) [
-  | inl e ↦
-      let d : 2 ^ j ∣ n = subst (λ (x : ℕ). 2 ^ j ∣ x) (sym e) (pow-dvd (wide p j)) in
-      let f : rn p n ≡ n = rn-kept p (rep-of p j n P d b) in
-      (subst (λ (x : ℕ). 2 ^ j ∣ x) (sym f) d, none (rn p n) n (2 ^ j) f)
-  | inr l ↦
-      let e = cut-is p j n P a l in
-      (subst (λ (k : ℕ). 2 ^ k ∣ rn p n) e (rn-dvd-ulp p n), subst (λ (k : ℕ). gap (rn p n) n * 2 ≤ 2 ^ k) e (rn-half p n))
-]
-  where
-    wide : (p k : ℕ) → k ≤ p + k
-    wide p k = omega arith
-
-    none : (x n u : ℕ) → x ≡ n → gap x n * 2 ≤ u
-    none x n u e = omega arith
 
 -- ---- 2 ^ t times as much
 pub rn-scaled : (p n t : ℕ) → 0 < p → rn p (n * 2 ^ t) ≡ rn p n * 2 ^ t

@@ -1,6 +1,6 @@
 -- The laws of add and sub as a proof uses them: `part s` of a value is its magnitude where its sign is s, and 0 otherwise. Each law holds
 -- for either s, so a proof goes once for both signs. In order: `Split`, what both parts are; a sum that the format holds is exact
--- (`add-exact`), any other is rounded (`add-round`); so for a difference; the parts of a value; comparison on one side.
+-- (`add-exact`), any other is rounded (`add-round`); a difference that it holds; the parts of a value; comparison on one side.
 -- Not here: products (`Multiply`). Assumes nothing.
 use mathlib.Core.Path.{_≡_, refl, sym, ap, _∙_, subst}
 use mathlib.Core.Logic.{_⊎_, inl, inr}
@@ -106,11 +106,6 @@ module _ (f : Format) (x y : Float) (rx : Real f x) (ry : Real f y) where
   sub-exact s a b e g =
       let n = neg-split s f y ry in
       add-exact f x (neg y) rx (n .real) s a b (rw (n .same, n .other) e) (rw (n .same, n .other) g)
-
-  pub sub-round : (s : Bool) (a : ℕ) → part s f x + part (not s) f y ≡ a + (part (not s) f x + part s f y)
-      → rn (prec f) a < overflow f → Split s f (sub f x y) (rn (prec f) a) 0
-  unfolding sub
-  sub-round s a e = let n = neg-split s f y ry in add-round f x (neg y) rx (n .real) s a (rw (n .same, n .other) e)
 
 -- ---- the parts of a value of the format
 pub part-rep : (s : Bool) (f : Format) (x : Float) → Real f x → Rep (prec f) (part s f x)

@@ -18,8 +18,7 @@ use Rattle.double.proofs.Laws.Rounding.{rn, rn-le, rn-dvd, rn-zero, rn-
 use Rattle.double.proofs.Laws.Units.{Real, Parts, mag-rep}
 use Rattle.double.proofs.Laws.Sum.{sub-law}
 use Rattle.double.proofs.Laws.Signed.{part, Split, split-of, split-own, part-both}
-use Rattle.double.proofs.Laws.Multiply.{mul-split}
-use Rattle.double.proofs.Laws.Scaled.{product-whole, product-grain}
+use Rattle.double.proofs.Laws.Multiply.{product-whole, product-grain, mul-split}
 
 pub record Sized (g b : ℕ) (x : Float) : Type 0 where
   pub real : Real binary64 x

@@ -13,15 +13,12 @@ use lib.Ieee.{Float, nan, inf, fin, Format, prec, low, up, down, round, sum, add
 use lib.Ieee.Fits.{down-pos, neg-fits}
 use lib.Ieee.Scale.{round-same, finite, overflow}
 use Rattle.double.specs.Worth.{signBit, mag, plus, minus, ofUnits}
-use Rattle.double.proofs.Laws.Digits.{gap}
+use Rattle.double.proofs.Laws.Digits.{gap, sub-mul}
 use Rattle.double.proofs.Laws.Rounding.{rn, rn-zero}
 use Rattle.double.proofs.Laws.Units.{Real, Parts, ofUnits-parts}
 use Rattle.double.proofs.Laws.Compare.{scaled-ltb, cross, cross-other}
 
 -- ---- a sum over any common denominator is one in units
-sub-mul : (a b l : ℕ) → (a - b) * l ≡ a * l - b * l
-sub-mul a b l = mul-comm (a - b) l ∙ mul-sub l a b ∙ ap₂ (λ (x y : ℕ). x - y) (mul-comm l a) (mul-comm l b)
-
 sum-same : (f : Format) (s : Bool) (a : ℕ) (t : Bool) (b c x y : ℕ) → 0 < c → a * 2 ^ low f ≡ x * c → b * 2 ^ low f ≡ y * c
     → sum f s a t b c ≡ sum f s x t y (2 ^ low f)
 unfolding sum

@@ -135,6 +135,19 @@ value-finite nan s n c h = absurd h
 value-finite (inf t) s n c h = absurd h
 value-finite (fin t m e) s n c h = tt
 
+-- x is the finite value of sign s and of n units
+pub record Known (f : Format) (x : Float) (s : Bool) (n : ℕ) : Type 0 where
+  pub real : Real f x
+  pub sign-is : signBit x ≡ s
+  pub mag-is : mag f x ≡ n
+
+pub value-known : (f : Format) (x : Float) (s : Bool) (n : ℕ) → T (fits f x) → HasValue x s n (2 ^ low f) → Known f x s n
+value-known f x s n t h = record {
+  real = record { fin = value-finite x s n (2 ^ low f) h; fit = t };
+  sign-is = value-signBit x s n (2 ^ low f) h;
+  mag-is = value-mag f x s n h;
+}
+
 -- what the parts of x are
 pub record Parts (f : Format) (x : Float) (a b : ℕ) : Type 0 where
   pub real : Real f x

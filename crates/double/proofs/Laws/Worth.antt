@@ -1,7 +1,7 @@
 -- What a double is worth, in ℤ, and back. In order: its parts above and below 0 are `plus` and `minus`; the zeros are worth 0, and only
 -- they; sums of worths by their parts; the double of its own worth, +0 for both zeros; the worth of the double made of w, for a w of
--- `prec` digits below overflow. Not here: the same over any format and in ℕ (`Units`). Assumes nothing.
-use mathlib.Core.Path.{_≡_, refl, sym, ap, ap₂, _∙_}
+-- `prec` digits below overflow, and that it is finite. Not here: the same over any format and in ℕ (`Units`). Assumes nothing.
+use mathlib.Core.Path.{_≡_, refl, sym, ap, ap₂, _∙_, subst}
 use mathlib.Core.Bool.{Bool, true, false, cond}
 use mathlib.Core.Logic.{_↔_, inl, inr}
 use Prim.Native.Nat.{ℕ, zero, suc, _+_, _^_, _<_}
@@ -16,10 +16,10 @@ use Rattle.double.specs.Worth.{signBit, mag, plus, minus, worth, ofUnits
 use Rattle.double.proofs.Laws.Digits.{Rep}
 use Rattle.double.proofs.Laws.Rounding.{rn, rn-kept}
 use Rattle.double.proofs.Laws.Units.{Real, value-mag, value-signBit}
-use Rattle.double.proofs.Laws.Units.{ofUnits-value, ofUnits-own}
+use Rattle.double.proofs.Laws.Units.{ofUnits-value, ofUnits-parts, ofUnits-own}
 
 -- a sign and a magnitude
-abbrev signed : Bool → ℕ → ℤ
+abbrev pub signed : Bool → ℕ → ℤ
 signed s n = cond s (negℤ (pos n)) (pos n)
 
 -- ---- its parts above and below 0
@@ -127,6 +127,13 @@ from-made : (f : Format) (w : ℤ) → Rep (prec f) (natAbs w) → natAbs w < ov
     → signed (signBit (from f w)) (mag f (from f w)) ≡ w
 from-made f (pos n) r h = made f false n (rn-kept (prec f) r) h
 from-made f (negsuc n) r h = made f true (suc n) (rn-kept (prec f) r) h
+
+from-real : (f : Format) (w : ℤ) → Rep (prec f) (natAbs w) → natAbs w < overflow f → Real f (from f w)
+from-real f (pos n) r h = ofUnits-parts f false n (lt-of-le-of-lt (le-of-eq (rn-kept (prec f) r)) h) .real
+from-real f (negsuc n) r h = ofUnits-parts f true (suc n) (lt-of-le-of-lt (le-of-eq (rn-kept (prec f) r)) h) .real
+
+pub doubleOf-real : (w : ℤ) → Rep (prec binary64) (natAbs w) → natAbs w < overflow binary64 → Real binary64 (doubleOf w)
+doubleOf-real w r h = subst (λ (x : Float). Real binary64 x) (sym (doubleOf-is w)) (from-real binary64 w r h)
 
 pub worth-doubleOf : (w : ℤ) → Rep (prec binary64) (natAbs w) → natAbs w < overflow binary64 → worth (doubleOf w) ≡ w
 unfolding worth

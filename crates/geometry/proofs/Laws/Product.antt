@@ -1,7 +1,7 @@
--- The exact product of two doubles, and of two coordinates. In order: a quotient without remainder; the code's roundoff is the promised
--- one, and the promise; the pair of two doubles of known grain and size: how large, what its total is, and what it is with a factor
--- negated; the same for two coordinates.
--- Not here: the code's roundoff itself (double's `ExactProduct`); lists of pairs (`Summands`, `Opened`). Assumes nothing.
+-- The exact product of two doubles, and of two coordinates. In order: a quotient without remainder; the promised roundoff is the double of
+-- what is lacking, and the promise; the pair of two doubles of known grain and size: how large, what its total is, and what it is with a
+-- factor negated; the same for two coordinates.
+-- Not here: what is lacking (double's `ExactProduct`); lists of pairs (`Summands`, `Opened`). Assumes nothing.
 use mathlib.Core.Path.{_≡_, refl, sym, ap, _∙_, subst}
 use Prim.Native.Nat.{ℕ, zero, suc, _+_, _-_, _*_, _/_, _^_, _≤_, _<_}
 use native.Mathlib.Nat.{lt-irrefl, zero-lt-suc, mul-pos, mul-div-cancel}
@@ -9,16 +9,14 @@ use native.Mathlib.Omega.{arith}
 use lib.IntN.{ℤ, pos, negsuc, negℤ, _+ℤ_, _-ℤ_, _*ℤ_}
 use lib.Signed.{quotZ}
 use lib.Pow.{pow-pos}
-use lib.Ieee.{Float, binary64, ofBits, add, sub, mul, neg}
+use lib.Ieee.{Float, binary64, ofBits, sub, mul, neg}
 use Rattle.whole.proofs.Laws.Ring.{_:+_, _:-_, _:*_, opp, solve}
 use Rattle.double.specs.Worth.{signBit, mag, worth, doubleOf}
-use Rattle.double.proofs.Laws.Worth.{doubleOf-worth-own}
+use Rattle.double.proofs.Laws.Worth.{doubleOf-zero}
 use Rattle.double.proofs.Laws.Zero.{plusZero}
-use Rattle.double.proofs.Laws.Dekker.{lastDifference}
-use Rattle.double.proofs.Laws.Significand.{factorMost}
-use Rattle.double.proofs.Laws.ExactProduct.{Factors, Exact, roundoff, exact-product}
+use Rattle.double.proofs.Laws.ExactProduct.{factorMost, Factors, lack, lack-exact, roundoff-worth}
 use Rattle.double.proofs.Laws.Sized.{Sized, Reach, sized-of, sided-own, mul-sided}
-use Rattle.double.proofs.Laws.Roundoff.{exact-worth, factors-of, roundoff-sized}
+use Rattle.double.proofs.Laws.Roundoff.{factors-of, roundoff-sized}
 use Rattle.double.proofs.Laws.Negated.{worth-neg, mul-neg, zero-less}
 use Rattle.point.specs.Spot.{unit}
 use Rattle.geometry.specs.Product.{roundoffOf}
@@ -43,32 +41,27 @@ quot-rest r e z n h p =
     rest = solve 2 (λ r e. (r :+ e :- r, e)) refl
 
 -- ---- the roundoff
-module _ (x y : Float) (E : Exact x y (mul binary64 x y) (roundoff x y)) where
-  roundoff-is : roundoff x y ≡ roundoffOf x y
-  unfolding roundoffOf
-  roundoff-is =
-      sym (ap doubleOf (quot-rest (worth (mul binary64 x y)) (worth (roundoff x y)) (worth x *ℤ worth y) (2 ^ 1074) (pow-pos 1074)
-      (exact-worth E)) ∙ doubleOf-worth-own (roundoff x y) (E .e-real) (E .e-zero))
-
-  roundoff-exact : (worth (mul binary64 x y) +ℤ worth (roundoffOf x y)) *ℤ unit ≡ worth x *ℤ worth y
-  roundoff-exact = ap (λ (e : Float). (worth (mul binary64 x y) +ℤ worth e) *ℤ unit) (sym roundoff-is) ∙ exact-worth E
-
 -- the code's constant, by its pattern
 pub zero-pattern : ofBits binary64 0 ≡ plusZero
 unfolding ofBits
 zero-pattern = refl
 
--- what the code returns is what it promises
-pub product-promised : (x y : Float) → Factors x y
-    → ExactProduct x y
-    (record { rounded = mul binary64 x y; roundoff = add binary64 (lastDifference (mul binary64 x y) x y) (ofBits binary64 0) })
-product-promised x y F =
-    let E = exact-product x y F in
-    record {
-      rounded = refl;
-      roundoff = ap (λ (z : Float). add binary64 (lastDifference (mul binary64 x y) x y) z) zero-pattern ∙ roundoff-is x y E;
-      exact = roundoff-exact x y E;
-    }
+module _ {x y : Float} (F : Factors x y) where
+  pub roundoff-is : roundoffOf x y ≡ doubleOf (lack x y)
+  unfolding roundoffOf
+  roundoff-is =
+      ap doubleOf (quot-rest (worth (mul binary64 x y)) (lack x y) (worth x *ℤ worth y) (2 ^ 1074) (pow-pos 1074) (lack-exact F))
+
+  pub roundoff-none : lack x y ≡ pos 0 → ofBits binary64 0 ≡ roundoffOf x y
+  roundoff-none e = zero-pattern ∙ sym doubleOf-zero ∙ ap doubleOf (sym e) ∙ sym roundoff-is
+
+  roundoff-exact : (worth (mul binary64 x y) +ℤ worth (roundoffOf x y)) *ℤ unit ≡ worth x *ℤ worth y
+  roundoff-exact =
+      ap (λ (e : ℤ). (worth (mul binary64 x y) +ℤ e) *ℤ unit) (ap worth roundoff-is ∙ roundoff-worth F) ∙ lack-exact F
+
+  -- what the code returns is what it promises
+  pub product-promised : {e : Float} → e ≡ roundoffOf x y → ExactProduct x y (record { rounded = mul binary64 x y; roundoff = e })
+  product-promised e = record { rounded = refl; roundoff = e; exact = roundoff-exact }
 
 -- ---- the pair of two doubles of known grain and size: each a multiple of 2 ^ g and at most 2 ^ b units, and in squares of units the product
 pub record Paired (g b : ℕ) (x y : Float) : Type 0 where
@@ -92,16 +85,13 @@ module _ {g1 b1 g2 b2 g b : ℕ} (m : Meets g1 b1 g2 b2 g b) (x y : Float) (X : 
   room : b < 2098
   room = omega (arith, m .below)
 
-  exactly : Exact x y (mul binary64 x y) (roundoff x y)
-  exactly = exact-product x y sized-factors
-
   pub sized-paired : Paired g b x y
   sized-paired = record {
     rounded = sized-of (mul-sided (signBit x) (signBit y) g1 b1 g2 b2 g x y (mag binary64 x) (mag binary64 y) (sided-own X) (sided-own Y)
         (m .grains) b (m .mosts) room);
-    rest = subst (λ (e : Float). Sized g b e) (roundoff-is x y exactly)
-        (roundoff-sized g1 b1 g2 b2 g b x y X Y (m .grains) (m .mosts) room exactly);
-    exact = roundoff-exact x y exactly;
+    rest = subst (λ (e : Float). Sized g b e) (sym (roundoff-is sized-factors))
+        (roundoff-sized g1 b1 g2 b2 g b x y X Y (m .grains) (m .mosts) room sized-factors);
+    exact = roundoff-exact sized-factors;
   }
 
   -- with x negated, 0.0 less the roundoff: +0 where that is nothing

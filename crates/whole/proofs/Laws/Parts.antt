@@ -1,6 +1,6 @@
 -- A whole number as a difference: z is `up z` - `dn z`, two naturals of which one is 0. So a fact of ℤ is one of ℕ, for `omega` to prove.
 --
--- In order: the two parts; sums, negations and products by parts; the order and equality by parts, and those of naturals; the laws of
+-- In order: the two parts; sums, negations, differences of naturals and products by parts; the order and equality by parts, and those of naturals; the laws of
 -- `*ℤ` that `lib.IntN` lacks.
 -- Not here: facts of several sums and products (`Linear`).
 -- Assumes nothing.
@@ -10,7 +10,7 @@ use mathlib.Core.Logic.{_↔_}
 use Prim.Native.Nat.{ℕ, zero, suc, _+_, _*_, _-_, _<_, _≤_}
 use native.Mathlib.Omega.{arith}
 use lib.Dec.{T, ltb, ltb→lt, nltb→le, leb→le, le→leb, lt→ltb}
-use lib.IntN.{ℤ, pos, negsuc, negℤ, subℕ, _+ℤ_, _*ℤ_}
+use lib.IntN.{ℤ, pos, negsuc, negℤ, natAbs, subℕ, _+ℤ_, _-ℤ_, _*ℤ_}
 use Rattle.whole.specs.Order.{_≤ᶻ_, _<ᶻ_}
 
 -- what is above 0
@@ -53,6 +53,17 @@ unfolding up dn
 dn-neg (pos zero) = refl
 dn-neg (pos (suc n)) = refl
 dn-neg (negsuc n) = refl
+
+-- of the difference of two natural numbers
+pub difference-parts : (m n : ℕ) → up (pos m -ℤ pos n) + n ≡ dn (pos m -ℤ pos n) + m
+unfolding up dn
+difference-parts m n = omega (arith, add-parts (pos m) (negℤ (pos n)), up-neg (pos n), dn-neg (pos n))
+
+-- a number and its negative are as far from 0
+pub natAbs-neg : (z : ℤ) → natAbs (negℤ z) ≡ natAbs z
+natAbs-neg (pos zero) = refl
+natAbs-neg (pos (suc n)) = refl
+natAbs-neg (negsuc n) = refl
 
 pub mul-parts : (z w : ℤ) → up (z *ℤ w) + (up z * dn w + dn z * up w) ≡ dn (z *ℤ w) + (up z * up w + dn z * dn w)
 unfolding up dn

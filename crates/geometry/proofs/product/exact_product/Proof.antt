@@ -1,21 +1,17 @@
--- `product::exact_product` meets its contract: with both high halves it is the run of Laws.Product. Assumes nothing.
-use borrow.Author.Needs.{needs}
+-- `product::exact_product` meets its contract: with the roundoff it is what Laws.Product promises. Assumes nothing.
+use mathlib.Core.Path.{refl}
 use Rattle.geometry.proofs.Laws.Product.{product-promised}
 use Rattle.geometry.proofs.product.exact_product.Statement.{statement}
 use Rattle.geometry.proofs.product.exact_product.Tie as tie
 use Rattle.geometry.proofs.product.exact_product.Reads as reads
 use Rattle.geometry.proofs.product.exact_product.Lts as lts
-use Rattle.geometry.proofs.product.high_half.Reads as high-half-reads
+use Rattle.geometry.proofs.roundoff.roundoff.Reads as roundoff-reads
 
-high-half-requires : tie.Need-high-half-requires
-high-half-requires c κs = search needs
-
-high-half-requires-2 : tie.Need-high-half-requires-2
-high-half-requires-2 c κs = search needs
+roundoff-requires : tie.Need-roundoff-requires
+roundoff-requires c κs = (c .pre, refl)
 
 returns : tie.Need-returns
-returns c =
-    rw (c .high-half2 .ensures, c .before .high-half .ensures) (product-promised _ _ (c .before .before .pre))
+returns c = product-promised (c .before .pre) (c .roundoff .ensures)
 
 pub exact-product-spec : {M : Type 1} → statement M
-exact-product-spec = tie.close (tie.spec high-half-requires high-half-requires-2 returns)
+exact-product-spec = tie.close (tie.spec roundoff-requires returns)

@@ -1,0 +1,2 @@
+-- What a reader must believe of words of 64 binary digits.
+pub mod Word
