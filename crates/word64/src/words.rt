@@ -11,6 +11,7 @@ const NEGATIVE: u64 = 0x8000_0000_0000_0000;
 pub fn last_of_product(a: u64, b: u64) -> u64
     ensures { λ r. ⌜ LastOfProductSays a b r ⌝ }
 {
+    // Of the middle only the lower half stands in the last word, so what wraps here is not missed.
     let middle = std::num::wrapping_add_u64(a / HALF * (b % HALF), a % HALF * (b / HALF));
     std::num::wrapping_add_u64(a % HALF * (b % HALF), middle % HALF * HALF)
 }
@@ -23,5 +24,6 @@ pub fn signed_difference(a: u64, b: u64) -> i64
     if word < NEGATIVE {
         return word as i64;
     }
+    // It is 2^64 - word that is to be negated; but that can be 2^63, which no i64 is: so one less, and then one more taken away.
     -((u64::MAX - word) as i64) - 1
 }

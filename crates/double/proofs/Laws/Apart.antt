@@ -1,6 +1,6 @@
--- A double taken apart. In order: the significand and the exponent of a magnitude and their ranges; the three fields of a pattern, and the
--- answer that they give; what the answer means: the worth is ±s·2^e units, the parts give back the double; no two results satisfy the
--- promise; what it tells a caller. Assumes nothing.
+-- A double taken apart. In order: the significand and the exponent of a magnitude and their ranges; the three fields of a pattern, the
+-- answer that they give, and the parts by the hidden bit; what the answer means: the worth is ±s·2^e units, the parts give back the double; no
+-- two results satisfy the promise; what it tells a caller. Assumes nothing.
 use mathlib.Core.Path.{_≡_, refl, sym, ap, _∙_, subst}
 use mathlib.Core.Logic.{_⊎_, inl, inr, _↔_}
 use mathlib.Core.Bool.{Bool, true, false, not, cond}

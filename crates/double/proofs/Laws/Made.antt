@@ -1,5 +1,6 @@
--- Doubles made of a whole number and powers of two. In order: a product with a power of two; a power of two from its field; a whole number up to 2 ^ 53 either way, times two powers of two, is the double of so many units, where they are whole.
--- Not here: what that double is worth (`Worth`). Assumes nothing.
+-- Doubles made of a whole number and powers of two. In order: a product with a power of two; a power of two from its field; a whole number up
+-- to 2 ^ 53 either way, times two powers of two, is the double of so many units, where they are whole. Not here: what that double is worth
+-- (`Worth`). Assumes nothing.
 use mathlib.Core.Path.{_≡_, refl, sym, ap, ap₂, _∙_, subst}
 use mathlib.Core.Bool.{Bool, true, false}
 use Prim.Native.Nat.{ℕ, zero, suc, _+_, _-_, _*_, _/_, _%_, _^_, _≤_, _<_}

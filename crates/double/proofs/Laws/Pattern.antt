@@ -1,5 +1,5 @@
--- A double and its bit pattern. In order: the patterns above infinity's are NaNs', the others are not; a NaN's pattern, and which doubles are none; no two results
--- satisfy either promise. Assumes nothing.
+-- A double and its bit pattern. In order: the patterns above infinity's are NaNs', the others are not; a NaN's pattern, and which doubles are
+-- numbers; no two results satisfy either promise. Assumes nothing.
 use mathlib.Core.Path.{_≡_, refl, sym, ap, _∙_, subst}
 use mathlib.Core.Bool.{Bool, true, false, not}
 use Prim.Native.Nat.{ℕ, _*_, _%_, _≤_, _<_}

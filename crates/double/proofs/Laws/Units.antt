@@ -1,5 +1,5 @@
 -- Values of a format in whole units of its smallest one, 2 ^ - low. In order: a value that fits is a whole number of units (`mag`) of
--- at most `prec` digits, below overflow; a fraction of 2 ^ low read as sign and magnitude; n units rounded (`ofUnits`), finite or
+-- at most `prec` digits, below overflow; a fraction of 2 ^ low read as sign and magnitude (`Known`); n units rounded (`ofUnits`), finite or
 -- infinite, and its parts `plus` and `minus`; a finite value is known by sign bit and magnitude.
 -- Not here: `worth`, the whole number in ℤ (`Worth`); arithmetic (`Sum`, `Multiply`). Assumes nothing.
 use mathlib.Core.Path.{_≡_, refl, sym, ap, ap₂, _∙_, subst}

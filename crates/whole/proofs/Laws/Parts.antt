@@ -1,7 +1,7 @@
 -- A whole number as a difference: z is `up z` - `dn z`, two naturals of which one is 0. So a fact of ℤ is one of ℕ, for `omega` to prove.
 --
--- In order: the two parts; sums, negations, differences of naturals and products by parts; the order and equality by parts, and those of naturals; the laws of
--- `*ℤ` that `lib.IntN` lacks.
+-- In order: the two parts; sums, negations, differences of naturals and products by parts; the order and equality by parts, and those of
+-- naturals; the laws of `*ℤ` that `lib.IntN` lacks.
 -- Not here: facts of several sums and products (`Linear`).
 -- Assumes nothing.
 use mathlib.Core.Path.{_≡_, refl, ap}

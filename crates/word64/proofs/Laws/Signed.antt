@@ -1,5 +1,5 @@
--- Signed arithmetic of the machine. In order: what fits; the negative of any number; one less than that, for a word below 2^63. An operation reads each
--- operand from its bits, which tell it as long as it fits. Assumes nothing.
+-- Signed arithmetic of the machine. In order: what fits; the negative of any number; one less than that, for a word below 2^63. An operation
+-- reads each operand from its bits, which tell it as long as it fits. Assumes nothing.
 use Prim.Native.Nat.{ℕ, zero, suc, _^_, _<_}
 use mathlib.Core.Path.{_≡_, refl, sym, ap, _∙_, subst}
 use native.Mathlib.Nat.{lt-of-le-of-lt, le-of-eq}
@@ -35,11 +35,14 @@ one-below zero = refl
 one-below (suc k) = -ℤ-one (negsuc k)
 
 module _ (k : ℕ) (h : k < 2 ^ 63) where
+  negative-fits : SFits w64 (negℤ (pos k))
+  negative-fits = signed-fits (negℤ (pos k)) (lt-of-le-of-lt (le-of-eq (natAbs-neg (pos k))) h)
+
   pub word-negated-fits : SFits w64 (pos 0 -ℤ toZ w64 k)
-  word-negated-fits = negated-fits _ (pos k) (toZ-pos w64 k h) (signed-fits (negℤ (pos k)) (lt-of-le-of-lt (le-of-eq (natAbs-neg (pos k))) h))
+  word-negated-fits = negated-fits _ (pos k) (toZ-pos w64 k h) negative-fits
 
   one-less : again (pos 0 -ℤ toZ w64 k) -ℤ pos 1 ≡ negsuc k
-  one-less = ap (λ (z : ℤ). z -ℤ pos 1) (negated-again _ (pos k) (toZ-pos w64 k h) (signed-fits (negℤ (pos k)) (lt-of-le-of-lt (le-of-eq (natAbs-neg (pos k))) h))) ∙ one-below k
+  one-less = ap (λ (z : ℤ). z -ℤ pos 1) (negated-again _ (pos k) (toZ-pos w64 k h) negative-fits) ∙ one-below k
 
   pub one-less-fits : SFits w64 (again (pos 0 -ℤ toZ w64 k) -ℤ pos 1)
   one-less-fits = subst (SFits w64) (sym one-less) (record { sfits = h })
