@@ -50,7 +50,7 @@ uint32_t ghomxarin_side(uint64_t px, uint64_t py, uint64_t qx, uint64_t qy, uint
  *
  *     0     outside
  *     1     on the border: on an edge or a corner
- *     2     inside, by the even-odd rule: where the border goes round p twice, p is outside
+ *     2     inside, by the non-zero rule: where the border goes round p twice the same way, p is inside; once each way, p is outside
  *     105   `length` is no multiple of 16
  *     104   fewer than 3 corners, also where `length` is 0
  *     101   more than 64 corners

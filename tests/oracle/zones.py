@@ -1,6 +1,10 @@
-"""01, 'The zone': border, inside or outside, from the signs of exact determinants."""
+"""The zone: border, inside or outside, from the signs of exact determinants.
+
+How often the border goes round a point is found by quarter turns, and compared with the rule's total.
+"""
 
 from doubles import coordinates
+from promises import promise
 from sides import exact_sign
 from words import Refused, Unclear, read_doubles
 
@@ -31,7 +35,7 @@ def place_in(zone, point):
     edge = border_edge(zone, point)
     if edge is not None:
         return "border", edge
-    return ("inside" if counted_edges(zone, point) % 2 == 1 else "outside"), None
+    return ("outside" if times_round(zone, point) == 0 else "inside"), None
 
 
 def edges(zone):
@@ -52,13 +56,38 @@ def is_between(start, point, end):
     return all(min(s, e) <= p <= max(s, e) for s, p, e in zip(start, point, end))
 
 
-def counted_edges(zone, point):
-    """Edges that go up past the point on its right, or down past it on its left."""
-    count = 0
+def times_round(zone, point):
+    """How often the border goes round a point that is not on it, counter-clockwise, by quarter turns."""
+    quarters = sum(quarter_turns(start, end, point) for start, end in edges(zone))
+    promise(quarters % 4 == 0, "a closed border goes round whole times")
+    promise(quarters == 4 * total(zone, point), "the total is how often the border goes round the point")
+    return quarters // 4
+
+
+def quarter_turns(start, end, point):
+    """How many quarters an edge goes on round the point, counter-clockwise: -2 to 2."""
+    turned = (quarter(end, point) - quarter(start, point)) % 4
+    if turned == 2:
+        # to the quarter across: on which side it passes the point tells which way round
+        return 2 * exact_sign(start, end, point)
+    return -1 if turned == 3 else turned
+
+
+def quarter(corner, point):
+    """0 to 3, counter-clockwise; each has one of the two half-lines that bound it."""
+    x, y = corner[0] - point[0], corner[1] - point[1]
+    if x > 0 and y >= 0:
+        return 0
+    if x <= 0 and y > 0:
+        return 1
+    if x < 0:
+        return 2
+    return 3
+
+
+def total(zone, point):
+    """By the rule: edges that go up past the point on its right, less those that go down past it there."""
     y = point[1]
-    for start, end in edges(zone):
-        if start[1] <= y < end[1] and exact_sign(start, end, point) == 1:
-            count += 1
-        if end[1] <= y < start[1] and exact_sign(start, end, point) == -1:
-            count += 1
-    return count
+    ups = [edge for edge in edges(zone) if edge[0][1] <= y < edge[1][1] and exact_sign(*edge, point) == 1]
+    downs = [edge for edge in edges(zone) if edge[1][1] <= y < edge[0][1] and exact_sign(*edge, point) == -1]
+    return len(ups) - len(downs)

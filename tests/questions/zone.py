@@ -14,10 +14,15 @@ NOTABLE = [
     SQUARE[::-1],
     SQUARE * 2,
     SQUARE + SQUARE[::-1],
+    SQUARE + SQUARE[:1] + SQUARE[:0:-1],
     SQUARE * 16,
     [(-0.0, 0.0), (0.0, 0.0), (4.0, -0.0), (4.0, 4.0), (4.0, 4.0), (-0.0, 4.0)],  # repeated corners, both zeros
     [(2.0, 0.0), (4.0, 2.0), (2.0, 4.0), (0.0, 2.0)],  # rays through corners
     [(0.0, 0.0), (4.0, 4.0), (4.0, 0.0), (0.0, 4.0)],  # crosses itself
+    [(0.0, 3.0), (4.0, 3.0), (1.0, 0.0), (2.0, 5.0), (3.0, 0.0)],  # a star, whose middle is gone round twice
+    [(0.0, 0.0), (5.0, 0.0), (5.0, 5.0), (0.0, 5.0), (0.0, 0.0), (1.0, 1.0), (3.0, 1.0), (3.0, 3.0), (1.0, 3.0), (1.0, 1.0)],  # a square in a square
+    [(0.0, 0.0), (5.0, 0.0), (5.0, 5.0), (0.0, 5.0), (0.0, 0.0), (1.0, 1.0), (1.0, 3.0), (3.0, 3.0), (3.0, 1.0), (1.0, 1.0)],  # the other way round
+    [(0.0, 0.0), (3.0, 0.0), (3.0, 3.0), (0.0, 3.0), (0.0, 0.0), (1.0, 1.0), (1.0, 4.0), (4.0, 4.0), (4.0, 1.0), (1.0, 1.0)],  # one over the other
     [(0.0, 0.0), (4.0, 0.0), (4.0, 4.0), (2.0, 0.0), (0.0, 4.0)],  # touches itself
     [(0.0, 0.0), (4.0, 0.0), (4.0, 4.0), (3.0, 4.0), (3.0, 2.0), (1.0, 2.0), (1.0, 4.0), (0.0, 4.0)],
     [(1.0, 1.0)] * 3,
@@ -135,13 +140,14 @@ def in_ring(random):
 
 
 def sharing_an_edge(random):
-    """Two zones that share an edge, gone along both ways, and a point on it that was chopped."""
+    """Two zones that share an edge, gone along both ways, their joint outline, and a point on the edge that was chopped."""
     shared = chopped(random, [(random.random() * 20, random.random() * 20) for _ in range(2)])
     point = chopped(random, [on_edge(random, shared)])[0]
     left = [(random.random() * -20, random.random() * 20) for _ in range(random.randint(1, 6))]
     right = [(20 + random.random() * 20, random.random() * 20) for _ in range(random.randint(1, 6))]
     yield [point] + shared + left
     yield [point] + shared[::-1] + right
+    yield [point] + shared[1:] + left + shared[:1] + right
 
 
 def repeating(random):
@@ -152,6 +158,25 @@ def repeating(random):
         yield [grid_point(random, 3)] + doubled
 
 
+def crossing(random):
+    """A ring whose corners are joined by leaps, as a star's are, and a point anywhere or on its border."""
+    zone = ring(random)
+    leap = random.randint(2, 5)
+    zone = [zone[index * leap % len(zone)] for index in range(len(zone))]
+    if random.randrange(2) == 0:
+        zone = chopped(random, zone)
+    for _ in range(2):
+        yield [random.choice((on_edge(random, zone), (2 * random.random() - 1, 2 * random.random() - 1)))] + zone
+
+
+def two_loops(random):
+    """Two loops through one corner, by themselves and as one zone; in that also with the second the other way round."""
+    at = grid_point(random, 3)
+    one, two = ([at] + [grid_point(random, 4) for _ in range(random.randint(2, 9))] for _ in range(2))
+    point = grid_point(random, 4)
+    yield from ([point] + one, [point] + two, [point] + one + two, [point] + one + two[:1] + two[:0:-1])
+
+
 def on_one_line(random):
     """A zone without an inside."""
     dx, dy = grid_point(random, 2)
@@ -159,5 +184,6 @@ def on_one_line(random):
 
 
 SHAPES = (
-    on_grid, on_grid, scattered, at_ends, in_ring, in_ring, in_ring, sharing_an_edge, repeating, on_one_line,
+    on_grid, on_grid, scattered, at_ends, in_ring, in_ring, in_ring, sharing_an_edge, repeating, crossing, two_loops,
+    on_one_line,
 )

@@ -69,6 +69,24 @@ static void put_square(uint8_t *at)
     put_corner(at + 3 * CORNER, 0, 4);
 }
 
+/* The square the other way round. */
+static void put_square_back(uint8_t *at)
+{
+    put_corner(at, 0, 0);
+    put_corner(at + CORNER, 0, 4);
+    put_corner(at + 2 * CORNER, 4, 4);
+    put_corner(at + 3 * CORNER, 4, 0);
+}
+
+/* The line crosses itself at (2, 2). */
+static void put_eight(uint8_t *at)
+{
+    put_corner(at, 0, 0);
+    put_corner(at + CORNER, 4, 4);
+    put_corner(at + 2 * CORNER, 4, 0);
+    put_corner(at + 3 * CORNER, 0, 4);
+}
+
 /* Corner k at (k, k*k): the border is a bow, and the chord from its last corner to its first. */
 static void put_bow(uint8_t *at, int corners)
 {
@@ -159,6 +177,16 @@ static void zones_of_a_square(void)
     put_square(twice + 4 * CORNER);
     zone(2, 2, twice, sizeof twice, "the middle of a square listed twice");
     zone(4, 4, twice, sizeof twice, "a corner of a square listed twice");
+
+    put_square_back(twice + 4 * CORNER);
+    zone(2, 2, twice, sizeof twice, "the middle of a square gone round once and then back");
+
+    uint8_t eight[4 * CORNER];
+    put_eight(eight);
+    zone(1, 2, eight, sizeof eight, "in the loop of a figure of eight that goes round counter-clockwise");
+    zone(3, 2, eight, sizeof eight, "in the loop that goes round clockwise");
+    zone(2, 1, eight, sizeof eight, "between the loops");
+    zone(2, 2, eight, sizeof eight, "where the line crosses itself");
 }
 
 static void zones_of_every_length(void)

@@ -3,6 +3,7 @@ use Prim.Native.Nat.{ℕ, _/_, _%_, _≤_, _<_}
 use mathlib.Core.Path.{_≡_}
 use mathlib.Core.Bool.{true, false}
 use mathlib.Core.List.{List, _∷_}
+use lib.IntN.{ℤ}
 use lib.ListN.{length}
 use lib.Ieee.{Float, nan}
 use Rattle.refusal.specs.Outcome.{tooMany, notAccepted, tooFewCorners, oddLength}
@@ -14,7 +15,7 @@ use Rattle.point.specs.Spot.{spotOf}
 use Rattle.point.specs.High.{highAccepted}
 use Rattle.geometry.specs.Side.{sixOf}
 use Rattle.ground.specs.Edge.{edgesOf, onEdge}
-use Rattle.ground.specs.Zone.{Tally, tallyOf}
+use Rattle.ground.specs.Zone.{tallyOf, totalOf}
 use Rattle.geometry.specs.Plane.{twelveOf}
 use Rattle.geometry.specs.Zone.{fewest, most, cornersOf, edgeAt}
 
@@ -44,6 +45,6 @@ pub record FirstOn (xs : List Float) (p : Point) (k : ℕ) : Type 0 where
 abbrev pub OffBorder : List Float → Point → Type 0
 OffBorder xs p = (k : ℕ) → k < length xs / 2 → onEdge (edgeAt xs k) (spotOf p) ≡ false
 
--- how many edges count, upward and downward
-abbrev pub tallyIn : List Float → Point → Tally
-tallyIn xs p = tallyOf (edgesOf (cornersOf xs)) (spotOf p)
+-- Zone 7: the edges that count upward less those that count downward
+abbrev pub totalIn : List Float → Point → ℤ
+totalIn xs p = totalOf (tallyOf (edgesOf (cornersOf xs)) (spotOf p))

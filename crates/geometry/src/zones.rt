@@ -147,7 +147,8 @@ fn place(corners: &[f64], n: usize, p: Point) -> Place
         return Place::Border(edge);
     }
     let c = counted(corners, n, p);
-    if (c.ups + c.downs) % 2 == 1 {
+    // The total is ups less downs: it is 0 where they are equal.
+    if c.ups != c.downs {
         return Place::Inside;
     }
     Place::Outside

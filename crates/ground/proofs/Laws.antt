@@ -3,11 +3,13 @@
 pub mod Compare
 -- an edge turned round: the same points on it, up where the other counts down; none counts both ways
 pub mod Edges
--- what is made of a tally off the border: the only laws of the rule itself
+-- whole numbers that are odd, odd or 0, and from -1 to 1
+pub mod Odd
+-- what is made of a tally off the border: its total, and the place by it
 pub mod Rule
 -- tallies of lists of edges, and the place by them; on the border where an edge has the point
 pub mod Tally
--- the list of corners begun at another corner, and backwards: the same place
+-- the list of corners begun at another corner, and backwards: the same place, and the same total or its negative
 pub mod Listing
 -- whole numbers alone: heights over a point with weights that balance, and shares of a way
 pub mod Weights
@@ -17,7 +19,15 @@ pub mod Triangles
 pub mod Joined
 -- a triangle by sides: inside is where all three are above 0
 pub mod Sides
+-- the rule by odd or even, and where it says the same: in every triangle among others
+pub mod Parity
+-- strictly convex zones: no height is passed upward twice, and so the rule by odd or even says the same
+pub mod Convex
+-- a list that passes a corner twice, and a list of corners twice over
+pub mod Loops
+-- four corners whose line crosses itself: both loops are inside
+pub mod Eight
 -- the determinant of four points with heights: the 24 products, two points exchanged or equal, equal heights
 pub mod Space
--- the rules at work: a square, two zones that share a chain, and four points with heights
+-- the rules at work: a square, a figure of eight, a star, two zones that share a chain, and four points with heights
 mod Examples

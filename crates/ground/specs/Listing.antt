@@ -4,11 +4,12 @@ use mathlib.Core.Path.{_≡_}
 use mathlib.Core.Bool.{true}
 use mathlib.Core.List.{List, _∷_, _++_, reverse, List·Memᴰ}
 use mathlib.Core.Logic.{_⊎_}
+use lib.IntN.{ℤ}
 use Rattle.ground.specs.Plane.{Spot}
 use Rattle.ground.specs.Edge.{Edge, edge, edgesFrom, edgesOf, onEdge}
-use Rattle.ground.specs.Zone.{Tally, placeNumber, placeOf}
+use Rattle.ground.specs.Zone.{Tally, tallyOf, totalOf, placeNumber, placeOf}
 
--- the same round of corners, begun at another one
+-- Zone 10: the same round of corners, begun at another one
 pub record Turned {A : Type 0} (cs ds : List A) : Type 0 where
   pub front : List A
   pub back : List A
@@ -27,6 +28,10 @@ turnedRound e = edge (e .to) (e .from)
 abbrev pub placeIn : List Spot → Spot → ℕ
 placeIn cs p = placeNumber (placeOf (edgesOf cs) p)
 
+-- Zone 7: the total of a point in the zone of these corners
+abbrev pub totalIn : List Spot → Spot → ℤ
+totalIn cs p = totalOf (tallyOf (edgesOf cs) p)
+
 -- the tallies of two lists of edges in one
 abbrev pub together : Tally → Tally → Tally
 together s t = record { ups = s .ups + t .ups; downs = s .downs + t .downs }
@@ -35,18 +40,13 @@ together s t = record { ups = s .ups + t .ups; downs = s .downs + t .downs }
 abbrev pub opposite : Tally → Tally
 opposite t = record { ups = t .downs; downs = t .ups }
 
--- what two tallies have together is what a third has, and n more ups and n more downs
-pub record Cancels (one two outline : Tally) (n : ℕ) : Type 0 where
-  pub ups : one .ups + two .ups ≡ outline .ups + n
-  pub downs : one .downs + two .downs ≡ outline .downs + n
-
 -- some edge of the list has the point on it
 pub record Met (es : List Edge) (p : Spot) : Type 0 where
   pub at : Edge
   pub listed : List·Memᴰ at es
   pub on : onEdge at p ≡ true
 
--- two zones that share the edges from a by a chain of corners to b, one running on by cs back to a, two from a by ds back to b; their joint
+-- Zone 12: two zones that share the edges from a by a chain of corners to b, one running on by cs back to a, two from a by ds back to b; their joint
 -- outline leaves the chain out. The chain is empty where they share one edge; each of the three is listed from any corner, either way round
 pub record Joined (one two outline : List Spot) : Type 0 where
   pub a : Spot

@@ -5,6 +5,10 @@ pub mod Zones
 pub mod Relisted
 -- two zones that share an edge or a chain of edges, and their joint outline
 pub mod Joined
+-- a zone that passes a corner twice, and one whose corners are listed twice over
+pub mod Loops
+-- the answers by odd or even, as they were before, and where they are the same
+pub mod Parity
 -- the plane: equal by value, two points exchanged or equal, equal heights, a ball above or below
 pub mod Planes
 -- the meeting of two pieces: equal by value, exchanged, turned round

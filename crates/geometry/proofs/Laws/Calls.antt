@@ -2,16 +2,17 @@
 -- with what place; an answered side: its sign, its steps; which zones are refused, with what number and place; an answered zone: border,
 -- inside, outside. A point that is handed in is made of doubles (`OfDoubles`). Assumes nothing.
 use mathlib.Core.Path.{_≡_, refl, sym, ap, ap₂, _∙_, subst}
-use mathlib.Core.Bool.{Bool, true, false, cond}
+use mathlib.Core.Bool.{Bool, true, false}
 use mathlib.Core.List.{List, _∷_}
-use mathlib.Core.Logic.{_↔_, inl, inr}
-use Prim.Native.Nat.{ℕ, _+_, _*_, _/_, _%_, _≤_, _<_}
+use mathlib.Core.Logic.{_↔_, Iff·trans, inl, inr}
+use Prim.Native.Nat.{ℕ, _*_, _/_, _%_, _≤_, _<_}
 use native.Mathlib.Nat.{zero-add, le-antisymm, eq-zero-or-pos}
 use native.Mathlib.Omega.{arith}
 use lib.Dec.{eqb, leb}
+use lib.IntN.{pos}
 use lib.ListN.{length}
 use lib.Ieee.{Float, nan}
-use borrow.Author.Tests.{eqb-true, eqb-false, eq-eqb, leb-true, leb-false}
+use borrow.Author.Tests.{eqb-true, eqb-false, leb-true, leb-false}
 use Rattle.whole.specs.Sign.{sgn}
 use Rattle.whole.proofs.Laws.Order.{lt-or-le}
 use Rattle.refusal.specs.Outcome.{answers, refuses, tooMany, notAccepted, tooFewCorners, oddLength}
@@ -27,9 +28,10 @@ use Rattle.point.proofs.Laws.Within.{Within, accepted-within}
 use Rattle.sum.specs.Total.{signNumber}
 use Rattle.geometry.specs.Side.{Turned, turnOf, turnSaid, said, sixOf, sideOf, SideSays, mostSteps}
 use Rattle.ground.specs.Edge.{edgesOf}
-use Rattle.ground.specs.Zone.{Tally, Lies, placeNumber, placeOf, outside, border, inside, offBorder}
+use Rattle.ground.specs.Zone.{Tally, tallyOf, Lies, placeNumber, placeOf, outside, border, inside, offBorder}
+use Rattle.ground.proofs.Laws.Rule.{off-inside, off-outside, off-border}
 use Rattle.geometry.specs.Zone.{fewest, most, cornersOf, placeIn, Zoned, placeSaid, zoneSaid, zoneOf, ZoneSays}
-use Rattle.geometry.specs.Reasons.{SideRefusedAs, ZoneRefusedAs, odd, few, many, unaccepted, FirstOn, OffBorder, tallyIn}
+use Rattle.geometry.specs.Reasons.{SideRefusedAs, ZoneRefusedAs, odd, few, many, unaccepted, FirstOn, OffBorder, totalIn}
 use Rattle.geometry.specs.declared.answer.Turn.{Turn}
 use Rattle.geometry.specs.declared.answer.Side.{Side}
 use Rattle.geometry.specs.declared.answer.Side.the-variants.{Of, Refused}
@@ -38,7 +40,7 @@ use Rattle.geometry.specs.declared.answer.Place.the-variants.{Outside, B
 use Rattle.geometry.specs.declared.answer.Zone.{Zone}
 use Rattle.geometry.specs.declared.answer.Zone.the-variants.{At, Refused as ZoneRefused}
 use Rattle.geometry.proofs.Laws.Side.{turn-sign, turn-steps, turn-steps-early, side-turn}
-use Rattle.geometry.proofs.Laws.Zone.{zone-odd, zone-small, zone-large, judged}
+use Rattle.geometry.proofs.Laws.Zone.{zone-odd, zone-small, zone-large, judged, place-once}
 use Rattle.geometry.proofs.Laws.Located.{located}
 use Rattle.geometry.proofs.Laws.Answered.{zone-answered, zoned-answers}
 
@@ -171,23 +173,6 @@ zone-answers xs n p (ZoneRefused f) zoned a h = no-refusal (h ∙ zoned-answers 
 not-both : {A : Type 0} {b : Bool} → b ≡ true → b ≡ false → A
 not-both e f = never (cc)
 
--- off the border: inside if the count is odd, and never on the border
-off-inside : (t : Tally) → (offBorder t ≡ inside) ↔ ((t .ups + t .downs) % 2 ≡ 1)
-unfolding offBorder
-off-inside t = (λ e. go (eqb ((t .ups + t .downs) % 2) 1) refl e, λ h. rw (eq-eqb ((t .ups + t .downs) % 2) 1 h))
-  where
-    go : (b : Bool) → eqb ((t .ups + t .downs) % 2) 1 ≡ b → cond b inside outside ≡ inside → (t .ups + t .downs) % 2 ≡ 1
-    go true h e = eqb-true ((t .ups + t .downs) % 2) 1 h
-    go false h e = never (cc)
-
-off-border : {A : Type 0} (t : Tally) (k : ℕ) → offBorder t ≡ border k → A
-unfolding offBorder
-off-border t k e = go (eqb ((t .ups + t .downs) % 2) 1) e
-  where
-    go : {A : Type 0} (b : Bool) → cond b inside outside ≡ border k → A
-    go true e = never (cc)
-    go false e = never (cc)
-
 -- the numbers of the places
 pub place-inside : placeNumber (placeSaid Inside) ≡ 2
 unfolding placeSaid
@@ -215,17 +200,23 @@ module _ (xs : List Float) (p : Point) (place : Place) (h : ZoneSays xs p (At pl
   unfolding placeIn
   zone-lies = at
 
+  abbrev tallied : Tally
+  tallied = tallyOf (edgesOf (cornersOf xs)) (spotOf p)
+
   halves : length xs ≡ 2 * (length xs / 2)
   halves = omega (arith, zone-answered xs p (placeSaid place) told .even)
+
+  answered-as : (m : Place) → (place ≡ m) ↔ (placeIn xs p ≡ placeSaid m)
+  answered-as m = (λ e. at ∙ ap placeSaid e, λ e. place-once place m (sym at ∙ e))
 
   -- border k: edge k has the point, and no earlier one
   pub zone-border : (k : ℕ) → (place ≡ Border k) ↔ FirstOn xs p k
   unfolding placeSaid
-  zone-border k = (λ e. first (at ∙ ap placeSaid e), λ f. only place (sym at ∙ last f))
+  zone-border k = Iff·trans (answered-as (Border k)) (first, last)
     where
       first : placeIn xs p ≡ border k → FirstOn xs p k
       first e = elim (located xs p halves) [
-        | inl (off, tally) ↦ off-border (tallyIn xs p) k (sym tally ∙ e)
+        | inl (off, tally) ↦ absurd (off-border tallied k (sym tally ∙ e))
         | inr (j, f, g) ↦ let both : border j ≡ border k = sym g ∙ e in let same : j ≡ k = cc in subst (FirstOn xs p) same f
       ]
 
@@ -239,29 +230,28 @@ module _ (xs : List Float) (p : Point) (place : Place) (h : ZoneSays xs p (At pl
           no-later : (i j : ℕ) → FirstOn xs p j → FirstOn xs p i → j ≤ i
           no-later i j g f = elim (lt-or-le i j) [ inl l ↦ not-both (f .on) (g .before i l) | inr l ↦ l ]
 
-      only : (l : Place) → placeSaid l ≡ border k → l ≡ Border k
-      only Outside e = never (cc)
-      only (Border j) e = ap Border (cc)
-      only Inside e = never (cc)
-
-  -- inside: no edge has it, and the count is odd
-  pub zone-inside : (place ≡ Inside) ↔ (OffBorder xs p × ((tallyIn xs p .ups + tallyIn xs p .downs) % 2 ≡ 1))
-  unfolding placeSaid
-  zone-inside = (λ e. first (at ∙ ap placeSaid e), λ (off, h). only place (sym at ∙ last off h))
+  -- what is answered where no edge has the point
+  off-answer : (l : Lies) (Q : Type 0) → ((k : ℕ) → border k ≡ l → ⊥) → (offBorder tallied ≡ l) ↔ Q → (placeIn xs p ≡ l) ↔ (OffBorder xs p × Q)
+  off-answer l Q apart law = (first, λ (off, q). last off q)
     where
-      first : placeIn xs p ≡ inside → OffBorder xs p × ((tallyIn xs p .ups + tallyIn xs p .downs) % 2 ≡ 1)
+      first : placeIn xs p ≡ l → OffBorder xs p × Q
       first e = elim (located xs p halves) [
-        | inl (off, tally) ↦ (off, off-inside (tallyIn xs p) .0 (sym tally ∙ e))
-        | inr (j, f, g) ↦ let same : border j ≡ inside = sym g ∙ e in never (cc)
+        | inl (off, tally) ↦ (off, law .0 (sym tally ∙ e))
+        | inr (j, f, g) ↦ absurd (apart j (sym g ∙ e))
       ]
 
-      last : OffBorder xs p → (tallyIn xs p .ups + tallyIn xs p .downs) % 2 ≡ 1 → placeIn xs p ≡ inside
-      last off h = elim (located xs p halves) [
-        | inl (_, tally) ↦ tally ∙ off-inside (tallyIn xs p) .1 h
+      last : OffBorder xs p → Q → placeIn xs p ≡ l
+      last off q = elim (located xs p halves) [
+        | inl (_, tally) ↦ tally ∙ law .1 q
         | inr (j, f, g) ↦ not-both (f .on) (off j (f .inside))
       ]
 
-      only : (l : Place) → placeSaid l ≡ inside → l ≡ Inside
-      only Outside e = never (cc)
-      only (Border j) e = never (cc)
-      only Inside e = refl
+  -- inside: no edge has it, and the total is not 0
+  pub zone-inside : (place ≡ Inside) ↔ (OffBorder xs p × (totalIn xs p ≡ pos 0 → ⊥))
+  unfolding placeSaid
+  zone-inside = Iff·trans (answered-as Inside) (off-answer inside (totalIn xs p ≡ pos 0 → ⊥) (λ k e. never (cc)) (off-inside tallied))
+
+  -- outside: no edge has it, and the total is 0
+  pub zone-outside : (place ≡ Outside) ↔ (OffBorder xs p × (totalIn xs p ≡ pos 0))
+  unfolding placeSaid
+  zone-outside = Iff·trans (answered-as Outside) (off-answer outside (totalIn xs p ≡ pos 0) (λ k e. never (cc)) (off-outside tallied))

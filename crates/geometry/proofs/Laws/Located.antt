@@ -9,11 +9,11 @@ use native.Mathlib.Omega.{arith}
 use lib.ListN.{length}
 use lib.Ieee.{Float}
 use Rattle.ground.specs.Edge.{edgesOf, onEdge}
-use Rattle.ground.specs.Zone.{border, offBorder}
+use Rattle.ground.specs.Zone.{border}
 use Rattle.point.specs.declared.Point.{Point}
 use Rattle.point.specs.Spot.{spotOf}
 use Rattle.geometry.specs.Zone.{cornersOf, placeIn, edgeAt}
-use Rattle.geometry.specs.Reasons.{FirstOn, OffBorder, tallyIn}
+use Rattle.geometry.specs.Reasons.{FirstOn, OffBorder}
 use Rattle.geometry.proofs.Laws.Zone.{offOf, walkFrom, walk-start, walk-here, walk-later, walk-end}
 
 -- ---- the border: the walk from edge j on, of m edges
@@ -49,7 +49,7 @@ module _ (xs : List Float) (p : Point) (size : length xs ≡ 2 * (length xs / 2)
       go false t (inr (k, (on, l, h, before))) = inr (k, (walk-later xs n p size j inside t ∙ on, l, h, also false t k before))
 
   -- off every edge, or on a first one
-  pub located : (OffBorder xs p × (placeIn xs p ≡ offBorder (tallyIn xs p)))
+  pub located : (OffBorder xs p × (placeIn xs p ≡ offOf (edgesOf (cornersOf xs)) (spotOf p)))
       ⊎ ((k : ℕ) × FirstOn xs p k × (placeIn xs p ≡ border k))
   located = elim (walked n 0 (zero-add n)) [
     | inl (off, none) ↦ inl (λ k l. none k zero-le l, sym (walk-start xs p) ∙ off)

@@ -24,6 +24,7 @@ use Rattle.ground.specs.Plane.{Spot}
 use Rattle.ground.specs.Edge.{Edge, edge, edgesOf, onEdge, isUp, isDown}
 use Rattle.ground.specs.Zone.{countOf, tallyOf, Lies, outside, border, inside, offBorder, walk, placeOf}
 use Rattle.ground.proofs.Laws.Edges.{crossing-once}
+use Rattle.ground.proofs.Laws.Rule.{off-equal, off-unequal}
 use Rattle.geometry.specs.Zone.{fewest, most, cornersOf, placeIn, cornerAt, nextOf, Zoned, placeSaid, zoneSaid, zoneOf, ZoneSays}
 use Rattle.geometry.specs.Parts.{crossingOf, withEdge, countsOf, cornersFault, faultSaid}
 use Rattle.geometry.specs.declared.edges.Crossing.the-variants.{None, Up, Down}
@@ -72,22 +73,16 @@ pub walk-start : (xs : List Float) (p : Point) → walkFrom xs p 0 ≡ placeIn x
 unfolding placeIn placeOf
 walk-start xs p = refl
 
--- odd or even
-abbrev parity : ℕ → Lies
-parity n = cond (eqb (n % 2) 1) inside outside
-
 module _ (es : List Edge) (p : Spot) (t : Counts) (e : t ≡ countsOf es p) where
-  pub off-inside : (t .ups + t .downs) % 2 ≡ 1 → inside ≡ offOf es p
-  unfolding offBorder tallyOf
+  pub off-inside : (t .ups ≡ t .downs → ⊥) → inside ≡ offOf es p
+  unfolding tallyOf
   off-inside h =
-      let i : inside ≡ parity (t .ups + t .downs) = rw (eq-eqb ((t .ups + t .downs) % 2) 1 h) in
-      i ∙ ap (λ (t : Counts). parity (t .ups + t .downs)) e
+      sym (off-unequal (tallyOf es p) (λ i. h (ap (λ (t : Counts). t .ups) e ∙ i ∙ sym (ap (λ (t : Counts). t .downs) e))))
 
-  pub off-outside : ((t .ups + t .downs) % 2 ≡ 1 → ⊥) → outside ≡ offOf es p
-  unfolding offBorder tallyOf
+  pub off-outside : t .ups ≡ t .downs → outside ≡ offOf es p
+  unfolding tallyOf
   off-outside h =
-      let o : outside ≡ parity (t .ups + t .downs) = rw (ne-eqb ((t .ups + t .downs) % 2) 1 h) in
-      o ∙ ap (λ (t : Counts). parity (t .ups + t .downs)) e
+      sym (off-equal (tallyOf es p) (sym (ap (λ (t : Counts). t .ups) e) ∙ h ∙ ap (λ (t : Counts). t .downs) e))
 
 -- ---- the edges of a flat list, from edge k on
 -- a corner's next one is a corner

@@ -1,14 +1,15 @@
--- An edge from its other end. In order: the determinant of a turned edge is the negative; the same points are on it; it counts up where the
--- other counts down; no edge counts both ways; a value between two others, from the order.
+-- One edge. In order: the determinant of a turned edge is the negative; a value between two others, from the order and back; what it says that
+-- a point is on an edge; the edge from its other end has the same points on it, and counts up where the other counts down; no edge counts both ways.
 -- Not here: lists of edges (`Tally`). Assumes nothing.
 use mathlib.Core.Path.{_≡_, refl, sym, _∙_, subst}
 use mathlib.Core.Bool.{Bool, true, false, _&&_, _||_}
 use mathlib.Core.Logic.{_⊎_, inl, inr}
+use Prim.Native.Nat.{zero, suc}
 use lib.Dec.{T}
-use lib.IntN.{ℤ, negℤ, _-ℤ_, _*ℤ_}
+use lib.IntN.{ℤ, pos, negsuc, negℤ, _-ℤ_, _*ℤ_}
 use Rattle.whole.specs.Order.{_≤ᶻ_}
 use Rattle.whole.proofs.Laws.Ring.{Expr, _:-_, _:*_, opp, solve}
-use Rattle.ground.specs.Compare.{atMost, below, isPositive, isNegative}
+use Rattle.ground.specs.Compare.{atMost, below, isZero, isPositive, isNegative}
 use Rattle.ground.specs.Plane.{Spot, determinant}
 use Rattle.ground.specs.Edge.{Edge, sideOfEdge, between, onEdge, isUp, isDown}
 use Rattle.ground.specs.Listing.{turnedRound}
@@ -40,6 +41,40 @@ between-round a b v = either-order (atMost b v && atMost v a) (atMost a v && atM
 pub between-told : (a b v : ℤ) → ((a ≤ᶻ v) × (v ≤ᶻ b)) ⊎ ((b ≤ᶻ v) × (v ≤ᶻ a)) → between a b v ≡ true
 between-told a b v (inl h) = rw (at-most-says a v .1 (h .0), at-most-says v b .1 (h .1))
 between-told a b v (inr h) = sym (between-round a b v) ∙ rw (at-most-says b v .1 (h .0), at-most-says v a .1 (h .1))
+
+false-not : {A : Type 0} → _≡_ {A = Bool} false true → A
+false-not e = absurd (subst T (sym e) tt)
+
+pub between-says : (a b v : ℤ) → between a b v ≡ true → ((a ≤ᶻ v) × (v ≤ᶻ b)) ⊎ ((b ≤ᶻ v) × (v ≤ᶻ a))
+between-says a b v e = go (atMost a v) (atMost v b) (atMost b v) (atMost v a) refl refl refl refl e
+  where
+    go : (p q r s : Bool) → atMost a v ≡ p → atMost v b ≡ q → atMost b v ≡ r → atMost v a ≡ s → ((p && q) || (r && s)) ≡ true
+        → ((a ≤ᶻ v) × (v ≤ᶻ b)) ⊎ ((b ≤ᶻ v) × (v ≤ᶻ a))
+    go true true r s i j k l e = inl (at-most-says a v .0 i, at-most-says v b .0 j)
+    go true false true true i j k l e = inr (at-most-says b v .0 k, at-most-says v a .0 l)
+    go true false true false i j k l e = false-not e
+    go true false false s i j k l e = false-not e
+    go false q true true i j k l e = inr (at-most-says b v .0 k, at-most-says v a .0 l)
+    go false q true false i j k l e = false-not e
+    go false q false s i j k l e = false-not e
+
+-- ---- a point on an edge
+pub on-says : (e : Edge) (p : Spot) → onEdge e p ≡ true
+    → (sideOfEdge e p ≡ pos 0) × (between (e .from .x) (e .to .x) (p .x) ≡ true) × (between (e .from .y) (e .to .y) (p .y) ≡ true)
+unfolding onEdge
+on-says e p h =
+    let (z, box) = both (isZero (sideOfEdge e p)) _ h in
+    let (x, y) = both (between (e .from .x) (e .to .x) (p .x)) (between (e .from .y) (e .to .y) (p .y)) box in
+    (zero-says (sideOfEdge e p) z, x, y)
+  where
+    both : (s t : Bool) → (s && t) ≡ true → (s ≡ true) × (t ≡ true)
+    both true t e = (refl, e)
+    both false t e = false-not e
+
+    zero-says : (z : ℤ) → isZero z ≡ true → z ≡ pos 0
+    zero-says (pos zero) e = refl
+    zero-says (pos (suc n)) e = false-not e
+    zero-says (negsuc n) e = false-not e
 
 -- ---- the edge turned round, and no edge both ways
 once : (s t : Bool) (z : ℤ) → (s && isPositive z) ≡ true → (t && isNegative z) ≡ false

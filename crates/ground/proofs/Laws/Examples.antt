@@ -1,14 +1,18 @@
--- The rules at work on small numbers: checked examples, cited by no law. In order: a square, and the square listed twice; two zones that
--- share a chain of two edges, and their joint outline, with a point of each; four points with heights.
+-- The rules at work on small numbers: checked examples, cited by no law. In order: a square, and the square listed twice; a figure of eight; a
+-- star; two zones that share a chain of two edges, and their joint outline, with a point of each; four points with heights.
 -- Assumes nothing.
 use mathlib.Core.Path.{_≡_, refl}
 use mathlib.Core.List.{List, [], _∷_, _++_}
+use mathlib.Core.Logic.{inl}
 use lib.IntN.{ℤ, pos, negsuc}
+use Rattle.whole.specs.Order.{_<ᶻ_}
 use Rattle.ground.specs.Compare.{atMost, below}
 use Rattle.ground.specs.Plane.{Spot}
 use Rattle.ground.specs.Edge.{edgesFrom, edgesOf, onEdge, isUp, isDown}
-use Rattle.ground.specs.Zone.{countOf, tallyOf, Lies, outside, border, inside, offBorder, walk, placeOf}
-use Rattle.ground.specs.Listing.{Joined}
+use Rattle.ground.specs.Zone.{countOf, tallyOf, totalOf, Lies, outside, border, inside, offBorder, walk, placeOf}
+use Rattle.ground.specs.Parity.{byParity, placeByParity}
+use Rattle.ground.specs.Listing.{totalIn, Joined}
+use Rattle.ground.specs.Convex.{Convex, Crossed}
 use Rattle.ground.specs.Space.{HighSpot, determinant}
 use Rattle.ground.proofs.Laws.Joined.{joined-opposite, joined-alike}
 
@@ -39,10 +43,49 @@ last-edge : liesIn square (pos 0) (pos 3) ≡ border 3
 unfolding placeOf walk offBorder tallyOf countOf isUp isDown onEdge edgesOf edgesFrom atMost below
 last-edge = refl
 
--- by 01, covered twice is outside
-twice : liesIn (square ++ square) (pos 1) (pos 2) ≡ outside
+-- listed twice: gone round twice; once round and once back: not gone round at all
+twice : liesIn (square ++ square) (pos 2) (pos 2) ≡ inside
 unfolding placeOf walk offBorder tallyOf countOf isUp isDown onEdge edgesOf edgesFrom atMost below
 twice = refl
+
+there-and-back : liesIn (square ++ spot (pos 0) (pos 0) ∷ spot (pos 0) (pos 4) ∷ spot (pos 4) (pos 4) ∷ spot (pos 4) (pos 0) ∷ []) (pos 2) (pos 2)
+    ≡ outside
+unfolding placeOf walk offBorder tallyOf countOf isUp isDown onEdge edgesOf edgesFrom atMost below
+there-and-back = refl
+
+square-convex : Convex square
+square-convex = inl (((left, (left, tt)), ((left, tt), (tt, tt))), (((left, tt), (tt, tt)), ((tt, tt), (tt, tt))))
+  where
+    left : pos 0 <ᶻ pos 16
+    left = record { lt = tt }
+
+-- ---- a figure of eight, whose line crosses itself at (2, 2): the loop on the right is gone round clockwise, the one on the left the other way
+abbrev eight : List Spot
+eight = spot (pos 0) (pos 0) ∷ spot (pos 4) (pos 4) ∷ spot (pos 4) (pos 0) ∷ spot (pos 0) (pos 4) ∷ []
+
+both-loops : (liesIn eight (pos 1) (pos 2) ≡ inside) × (liesIn eight (pos 3) (pos 2) ≡ inside) × (liesIn eight (pos 2) (pos 1) ≡ outside)
+unfolding placeOf walk offBorder tallyOf countOf isUp isDown onEdge edgesOf edgesFrom atMost below
+both-loops = (refl, refl, refl)
+
+-- listed backwards its edges cross as `Crossed` has it
+eight-crossed : Crossed (spot (pos 0) (pos 4)) (spot (pos 4) (pos 0)) (spot (pos 4) (pos 4)) (spot (pos 0) (pos 0))
+eight-crossed = record { start = record { lt = tt }; end = record { lt = tt }; other-start = record { lt = tt }; other-end = record { lt = tt } }
+
+eight-totals : (totalIn eight (spot (pos 1) (pos 2)) ≡ pos 1) × (totalIn eight (spot (pos 3) (pos 2)) ≡ negsuc 0)
+unfolding totalOf tallyOf countOf isUp isDown edgesOf edgesFrom atMost below
+eight-totals = (refl, refl)
+
+-- ---- a star of five points in one line: its middle, gone round twice, was outside by odd or even
+abbrev star : List Spot
+star = spot (pos 0) (pos 6) ∷ spot (pos 10) (pos 6) ∷ spot (pos 2) (pos 0) ∷ spot (pos 5) (pos 10) ∷ spot (pos 8) (pos 0) ∷ []
+
+star-middle : (liesIn star (pos 5) (pos 4) ≡ inside) × (placeByParity (edgesOf star) (spot (pos 5) (pos 4)) ≡ outside)
+unfolding placeOf walk offBorder tallyOf countOf isUp isDown onEdge edgesOf edgesFrom atMost below placeByParity byParity
+star-middle = (refl, refl)
+
+star-point : (liesIn star (pos 5) (pos 8) ≡ inside) × (placeByParity (edgesOf star) (spot (pos 5) (pos 8)) ≡ inside)
+unfolding placeOf walk offBorder tallyOf countOf isUp isDown onEdge edgesOf edgesFrom atMost below placeByParity byParity
+star-point = (refl, refl)
 
 -- ---- two zones that share the way from (0, 0) over (2, 1) to (4, 0)
 abbrev upper : List Spot

@@ -1,19 +1,23 @@
--- Two zones that share an edge, or a chain of edges, and their joint outline. In order: the edges of the three lists; what they tally: both
--- zones together have what the outline has and, once up and once down, each edge of the chain that counts; edges with the point on them;
--- over any listings, the border and the place in the outline and in the two; lists that are so joined.
+-- Two zones that share an edge, or a chain of edges, and their joint outline. In order: the edges of the three lists; what they tally: each
+-- edge of the chain that counts is up in one zone and down in the other, so that both totals add up to the outline's; edges with the point on
+-- them; over any listings, the border and the place in the outline and in the two; lists that are so joined, the chain walked by both zones the
+-- same way or not, and their totals.
 -- Not here: zones that cross or share more than one chain. Assumes nothing.
 use mathlib.Core.Path.{_≡_, sym, ap, ap₂, _∙_}
 use mathlib.Core.List.{List, [], _∷_, _++_, reverse, append-assoc, reverse-cons, reverse-append}
 use mathlib.Core.Logic.{_⊎_, inl, inr, ⊎-elim, ⊎-map, _↔_}
 use Prim.Native.Nat.{ℕ, zero, suc, _+_, _<_}
 use native.Mathlib.Omega.{arith}
+use lib.IntN.{ℤ, negℤ, _+ℤ_, _-ℤ_}
+use Rattle.whole.proofs.Laws.Linear.{ints, int-rules}
 use Rattle.ground.specs.Plane.{Spot}
-use Rattle.ground.specs.Edge.{Edge, edgesFrom, edgesOf, onEdge, isUp, isDown}
-use Rattle.ground.specs.Zone.{countOf, Tally, tallyOf, placeNumber, offBorder}
-use Rattle.ground.specs.Listing.{Relisted, placeIn, together, opposite, Cancels, Met, Joined, sharedEdges}
-use Rattle.ground.proofs.Laws.Rule.{off-joined-inside, off-joined-outside}
+use Rattle.ground.specs.Edge.{Edge, edgesFrom, edgesOf, onEdge}
+use Rattle.ground.specs.Zone.{countOf, Tally, tallyOf, totalOf, placeNumber, offBorder}
+use Rattle.ground.specs.Parity.{Agreed}
+use Rattle.ground.specs.Listing.{Turned, Relisted, placeIn, totalIn, together, opposite, Met, Joined, sharedEdges}
+use Rattle.ground.proofs.Laws.Rule.{total-opposite, total-together, off-joined-inside, off-joined-once, off-joined-outside}
 use Rattle.ground.proofs.Laws.Tally.{count-append, tally-append, off-place, border-count, met-count}
-use Rattle.ground.proofs.Laws.Listing.{edges-seam, way-on, way-tally, relisted-place, relisted-itself}
+use Rattle.ground.proofs.Laws.Listing.{edges-seam, way-on, way-tally, relisted-place, turned-back-total, relisted-agreed, relisted-itself}
 
 module _ (a b : Spot) (chain cs ds : List Spot) where
   -- ---- the edges of the three lists
@@ -45,18 +49,19 @@ module _ (a b : Spot) (chain cs ds : List Spot) where
     tally-outline : tallyOf (edgesOf (b ∷ cs ++ a ∷ ds)) p ≡ together (tallyOf (edgesFrom a b cs) p) (tallyOf (edgesFrom b a ds) p)
     tally-outline = ap (λ (es : List Edge). tallyOf es p) edges-outline ∙ tally-append (edgesFrom a b cs) (edgesFrom b a ds) p
 
-    -- n is the number of edges of the chain that count, up or down
-    pub joined-tally : Cancels (tallyOf (edgesOf (a ∷ chain ++ b ∷ cs)) p) (tallyOf (edgesOf (b ∷ reverse chain ++ a ∷ ds)) p)
-        (tallyOf (edgesOf (b ∷ cs ++ a ∷ ds)) p) (countOf isUp (edgesFrom b a chain) p + countOf isDown (edgesFrom b a chain) p)
-    unfolding tallyOf
-    joined-tally = rw (tally-one, tally-two, tally-outline) (record { ups = omega arith; downs = omega arith })
-
-    -- ups less downs of the outline are those of both zones together
-    pub joined-total : tallyOf (edgesOf (a ∷ chain ++ b ∷ cs)) p .ups + tallyOf (edgesOf (b ∷ reverse chain ++ a ∷ ds)) p .ups
-        + tallyOf (edgesOf (b ∷ cs ++ a ∷ ds)) p .downs
-        ≡ tallyOf (edgesOf (a ∷ chain ++ b ∷ cs)) p .downs + tallyOf (edgesOf (b ∷ reverse chain ++ a ∷ ds)) p .downs
-        + tallyOf (edgesOf (b ∷ cs ++ a ∷ ds)) p .ups
-    joined-total = let c = joined-tally in omega arith
+    -- both totals add up to the outline's
+    pub joined-total : totalIn (a ∷ chain ++ b ∷ cs) p +ℤ totalIn (b ∷ reverse chain ++ a ∷ ds) p ≡ totalIn (b ∷ cs ++ a ∷ ds) p
+    joined-total =
+        let c = tallyOf (edgesFrom a b cs) p in
+        let d = tallyOf (edgesFrom b a ds) p in
+        ap₂ (λ (y z : ℤ). y +ℤ z)
+        (ap totalOf tally-one ∙ total-together shared c)
+        (ap totalOf tally-two ∙ total-together (opposite shared) d ∙ ap (λ (z : ℤ). z +ℤ totalOf d) (total-opposite shared))
+        ∙ once-each-way (totalOf shared) (totalOf c) (totalOf d)
+        ∙ sym (ap totalOf tally-outline ∙ total-together c d)
+      where
+        once-each-way : (s c d : ℤ) → (s +ℤ c) +ℤ (negℤ s +ℤ d) ≡ c +ℤ d
+        once-each-way s c d = ints (s ∷ c ∷ d ∷ []) (λ ρ v n m. simp (int-rules, v 0, v 1, v 2) (omega arith))
 
     -- ---- edges with the point on them: those of the outline's two parts, and of the chain in both zones
     pub joined-on :
@@ -125,12 +130,26 @@ module _ {one two outline : List Spot} (j : Joined one two outline) (p : Spot) w
       unmet = none (countOf onEdge (sharedEdges j) p) (λ l. h (met-count (sharedEdges j) p .0 l))
 
   module _ (offOne : placeIn one p ≡ 1 → ⊥) (offTwo : placeIn two p ≡ 1 → ⊥) where
-    -- inside the outline: inside one of the two, outside the other
-    pub joined-inside : placeIn outline p ≡ 2
-        → ((placeIn one p ≡ 2) × (placeIn two p ≡ 0)) ⊎ ((placeIn one p ≡ 0) × (placeIn two p ≡ 2))
+    abbrev tallied : List Spot → Tally
+    tallied cs = tallyOf (edgesOf cs) p
+
+    -- inside the outline: inside one of the two, or both
+    pub joined-inside : placeIn outline p ≡ 2 → (placeIn one p ≡ 2) ⊎ (placeIn two p ≡ 2)
     joined-inside i =
         rw (off-listed one oneListed p (j .first) offOne, off-listed two twoListed p (j .second) offTwo)
-        (off-joined-inside (joined-tally (j .a) (j .b) (j .chain) (j .cs) (j .ds) p)
+        (off-joined-inside (tallied oneListed) (tallied twoListed) (tallied outlineListed)
+        (joined-total (j .a) (j .b) (j .chain) (j .cs) (j .ds) p)
+        (sym (off-listed outline outlineListed p (j .whole) (λ e. omega arith)) ∙ i))
+
+    -- and where all three totals are odd or 0: inside one of the two, outside the other
+    pub joined-kept : Agreed (totalIn one p) → Agreed (totalIn two p) → Agreed (totalIn outline p) → placeIn outline p ≡ 2
+        → ((placeIn one p ≡ 2) × (placeIn two p ≡ 0)) ⊎ ((placeIn one p ≡ 0) × (placeIn two p ≡ 2))
+    joined-kept s t u i =
+        rw (off-listed one oneListed p (j .first) offOne, off-listed two twoListed p (j .second) offTwo)
+        (off-joined-once (tallied oneListed) (tallied twoListed) (tallied outlineListed)
+        (joined-total (j .a) (j .b) (j .chain) (j .cs) (j .ds) p)
+        (relisted-agreed p one oneListed (j .first) s) (relisted-agreed p two twoListed (j .second) t)
+        (relisted-agreed p outline outlineListed (j .whole) u)
         (sym (off-listed outline outlineListed p (j .whole) (λ e. omega arith)) ∙ i))
 
     -- outside the outline: inside both of the two, or outside both
@@ -138,7 +157,8 @@ module _ {one two outline : List Spot} (j : Joined one two outline) (p : Spot) w
         → ((placeIn one p ≡ 2) × (placeIn two p ≡ 2)) ⊎ ((placeIn one p ≡ 0) × (placeIn two p ≡ 0))
     joined-outside i =
         rw (off-listed one oneListed p (j .first) offOne, off-listed two twoListed p (j .second) offTwo)
-        (off-joined-outside (joined-tally (j .a) (j .b) (j .chain) (j .cs) (j .ds) p)
+        (off-joined-outside (tallied oneListed) (tallied twoListed) (tallied outlineListed)
+        (joined-total (j .a) (j .b) (j .chain) (j .cs) (j .ds) p)
         (sym (off-listed outline outlineListed p (j .whole) (λ e. omega arith)) ∙ i))
 
 -- ---- which lists are joined
@@ -156,7 +176,21 @@ module _ (a b : Spot) (chain cs ds : List Spot) where
     whole = relisted-itself (b ∷ cs ++ a ∷ ds);
   }
 
-  -- walked the same way by both
+  -- walked the same way by both: the second, backwards, walks it the other way
+  alike-listed : Turned (reverse (a ∷ chain ++ b ∷ ds)) (b ∷ reverse chain ++ a ∷ reverse ds)
+  alike-listed = record {
+    front = reverse ds;
+    back = b ∷ reverse chain ++ a ∷ [];
+    one = backwards;
+    other = sym (append-assoc (b ∷ reverse chain) (a ∷ []) (reverse ds));
+  }
+    where
+      backwards : reverse (a ∷ chain ++ b ∷ ds) ≡ reverse ds ++ (b ∷ reverse chain ++ a ∷ [])
+      backwards =
+          reverse-append (a ∷ chain) (b ∷ ds)
+          ∙ ap₂ (λ (s t : List Spot). s ++ t) (reverse-cons b ds) (reverse-cons a chain)
+          ∙ append-assoc (reverse ds) (b ∷ []) (reverse chain ++ a ∷ [])
+
   pub joined-alike : Joined (a ∷ chain ++ b ∷ cs) (a ∷ chain ++ b ∷ ds) (b ∷ cs ++ a ∷ reverse ds)
   joined-alike = record {
     a = a;
@@ -165,17 +199,12 @@ module _ (a b : Spot) (chain cs ds : List Spot) where
     cs = cs;
     ds = reverse ds;
     first = relisted-itself (a ∷ chain ++ b ∷ cs);
-    second = inr (record {
-      front = reverse ds;
-      back = b ∷ reverse chain ++ a ∷ [];
-      one = backwards;
-      other = sym (append-assoc (b ∷ reverse chain) (a ∷ []) (reverse ds));
-    });
+    second = inr alike-listed;
     whole = relisted-itself (b ∷ cs ++ a ∷ reverse ds);
   }
-    where
-      backwards : reverse (a ∷ chain ++ b ∷ ds) ≡ reverse ds ++ (b ∷ reverse chain ++ a ∷ [])
-      backwards =
-          reverse-append (a ∷ chain) (b ∷ ds)
-          ∙ ap₂ (λ (s t : List Spot). s ++ t) (reverse-cons b ds) (reverse-cons a chain)
-          ∙ append-assoc (reverse ds) (b ∷ []) (reverse chain ++ a ∷ [])
+
+  -- then the outline's total is the first's less the second's
+  pub alike-total : (p : Spot) → totalIn (a ∷ chain ++ b ∷ cs) p -ℤ totalIn (a ∷ chain ++ b ∷ ds) p ≡ totalIn (b ∷ cs ++ a ∷ reverse ds) p
+  alike-total p =
+      ap (λ (z : ℤ). totalIn (a ∷ chain ++ b ∷ cs) p +ℤ z) (sym (turned-back-total p (a ∷ chain ++ b ∷ ds) _ alike-listed))
+      ∙ joined-total a b chain cs (reverse ds) p

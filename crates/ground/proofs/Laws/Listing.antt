@@ -1,18 +1,22 @@
 -- The place does not depend on the corner that comes first, nor on the way round. In order: edges of a list with a seam; a list begun at
 -- another corner has the same tally; a way between two corners, and a list, walked backwards has the opposite tally, and the same points on
--- it; so the place is the same; both laws in one. The number of the border's edge may change; the place does not. Assumes nothing.
-use mathlib.Core.Path.{_≡_, refl, sym, ap, ap₂, _∙_}
+-- it; so the place is the same, and the total is the same or turned round; both laws in one. The number of the border's edge may change; the
+-- place does not. Assumes nothing.
+use mathlib.Core.Path.{_≡_, refl, sym, ap, ap₂, _∙_, subst}
 use mathlib.Core.Bool.{Bool, cond}
 use mathlib.Core.List.{List, [], _∷_, _++_, reverse, append-nil, reverse-cons, reverse-append, reverse-reverse}
 use mathlib.Core.Logic.{_⊎_, inl, inr}
 use Prim.Native.Nat.{ℕ, _+_}
 use native.Mathlib.Omega.{arith}
+use lib.IntN.{ℤ, negℤ}
 use Rattle.ground.specs.Plane.{Spot}
 use Rattle.ground.specs.Edge.{Edge, edge, edgesFrom, edgesOf, onEdge, isUp, isDown}
-use Rattle.ground.specs.Zone.{countOf, Tally, tallyOf, offBorder}
-use Rattle.ground.specs.Listing.{Turned, Relisted, turnedRound, placeIn, opposite}
+use Rattle.ground.specs.Zone.{countOf, tallyOf, totalOf, offBorder}
+use Rattle.ground.specs.Parity.{Agreed}
+use Rattle.ground.specs.Listing.{Turned, Relisted, turnedRound, placeIn, totalIn, opposite}
 use Rattle.ground.proofs.Laws.Edges.{on-round, up-round, down-round}
-use Rattle.ground.proofs.Laws.Rule.{off-opposite}
+use Rattle.ground.proofs.Laws.Odd.{agreed-turned}
+use Rattle.ground.proofs.Laws.Rule.{total-opposite, off-opposite}
 use Rattle.ground.proofs.Laws.Tally.{count-append, count-exchanged, tally-counts, alike-place}
 
 -- from a by cs to b, and on by ds to the first
@@ -93,21 +97,34 @@ module _ (p : Spot) where
       let place : List Spot → ℕ = λ bs. placeIn bs p in
       ap place (t .one) ∙ start-place (t .front) (t .back) ∙ sym (ap place (t .other))
 
-  turned-tally : (cs ds : List Spot) → Turned cs ds → tallyOf (edgesOf ds) p ≡ tallyOf (edgesOf cs) p
-  turned-tally cs ds t =
-      let tally : List Spot → Tally = λ bs. tallyOf (edgesOf bs) p in
-      ap tally (t .other) ∙ start-tally (t .back) (t .front) ∙ sym (ap tally (t .one))
-
-  -- every listing of one round of corners has the same tally, or the opposite one
-  pub relisted-tally : (cs ds : List Spot) → Relisted cs ds
-      → (tallyOf (edgesOf ds) p ≡ tallyOf (edgesOf cs) p) ⊎ (tallyOf (edgesOf ds) p ≡ opposite (tallyOf (edgesOf cs) p))
-  relisted-tally cs ds (inl t) = inl (turned-tally cs ds t)
-  relisted-tally cs ds (inr t) = inr (turned-tally (reverse cs) ds t ∙ back-tally cs)
-
-  -- and the same place
+  -- every listing of one round of corners has the same place
   pub relisted-place : (cs ds : List Spot) → Relisted cs ds → placeIn cs p ≡ placeIn ds p
   relisted-place cs ds (inl t) = turned-place cs ds t
   relisted-place cs ds (inr t) = sym (back-place cs) ∙ turned-place (reverse cs) ds t
+
+  -- ---- the total: the same, begun at another corner; backwards, turned round
+  pub turned-total : (cs ds : List Spot) → Turned cs ds → totalIn ds p ≡ totalIn cs p
+  turned-total cs ds t =
+      let total : List Spot → ℤ = λ bs. totalIn bs p in
+      ap total (t .other) ∙ ap totalOf (start-tally (t .back) (t .front)) ∙ sym (ap total (t .one))
+
+  pub back-total : (cs : List Spot) → totalIn (reverse cs) p ≡ negℤ (totalIn cs p)
+  back-total cs = ap totalOf (back-tally cs) ∙ total-opposite (tallyOf (edgesOf cs) p)
+
+  -- both: backwards, and begun at another corner
+  pub turned-back-total : (cs ds : List Spot) → Turned (reverse cs) ds → totalIn ds p ≡ negℤ (totalIn cs p)
+  turned-back-total cs ds t = turned-total (reverse cs) ds t ∙ back-total cs
+
+  pub relisted-total : (cs ds : List Spot) → Relisted cs ds → (totalIn ds p ≡ totalIn cs p) ⊎ (totalIn ds p ≡ negℤ (totalIn cs p))
+  relisted-total cs ds (inl t) = inl (turned-total cs ds t)
+  relisted-total cs ds (inr t) = inr (turned-back-total cs ds t)
+
+  -- odd or 0 in one listing, so in every other
+  pub relisted-agreed : (cs ds : List Spot) → Relisted cs ds → Agreed (totalIn cs p) → Agreed (totalIn ds p)
+  relisted-agreed cs ds r h = elim (relisted-total cs ds r) [
+    | inl e ↦ subst Agreed (sym e) h
+    | inr e ↦ subst Agreed (sym e) (agreed-turned (totalIn cs p) h)
+  ]
 
 -- ---- other listings
 pub relisted-itself : (cs : List Spot) → Relisted cs cs

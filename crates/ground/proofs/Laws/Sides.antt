@@ -17,7 +17,7 @@ use Rattle.ground.specs.Plane.{Spot, determinant}
 use Rattle.ground.specs.Edge.{edgesFrom, edgesOf, onEdge}
 use Rattle.ground.specs.Zone.{countOf, Tally, tallyOf, placeNumber, offBorder}
 use Rattle.ground.specs.Listing.{placeIn}
-use Rattle.ground.proofs.Laws.Rule.{off-uneven}
+use Rattle.ground.proofs.Laws.Rule.{off-unequal}
 use Rattle.ground.proofs.Laws.Tally.{tally-counts, off-place, border-count}
 use Rattle.ground.proofs.Laws.Listing.{start-place}
 use Rattle.ground.proofs.Laws.Weights.{counts}
@@ -109,7 +109,7 @@ flat-side p q z i j =
     none x y = ap₂ (λ (s t : ℤ). s -ℤ t) (*ℤ-zero x) (zero-*ℤ y)
 
 -- ---- all three sides above 0
-positive-told : (z : ℤ) → pos 0 <ᶻ z → (isPositive z ≡ true) × (isNegative z ≡ false) × (isZero z ≡ false)
+pub positive-told : (z : ℤ) → pos 0 <ᶻ z → (isPositive z ≡ true) × (isNegative z ≡ false) × (isZero z ≡ false)
 positive-told (pos zero) h = absurd (h .lt)
 positive-told (pos (suc n)) h = (refl, refl, refl)
 positive-told (negsuc n) h = absurd (h .lt)
@@ -159,7 +159,7 @@ module _ (p q r z : Spot) (hA : pos 0 <ᶻ determinant q r z) (hB : pos 0 <ᶻ d
       off-place (edgesOf (p ∷ q ∷ r ∷ [])) z
       (λ e. omega (arith, border-count (edgesOf (p ∷ q ∷ r ∷ [])) z .0 e, sides-unmet))
       ∙ ap (λ (t : Tally). placeNumber (offBorder t)) sides-tally
-      ∙ off-uneven (record { ups = 1; downs = 0 }) (omega arith) (omega arith) (λ e. omega arith)
+      ∙ ap placeNumber (off-unequal (record { ups = 1; downs = 0 }) (λ e. omega arith))
 
 -- inside a triangle listed counter-clockwise: on the left of all three edges
 pub triangle-sides : (p q r z : Spot) → pos 0 <ᶻ determinant p q r → (placeIn (p ∷ q ∷ r ∷ []) z ≡ 2)

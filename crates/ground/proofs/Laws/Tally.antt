@@ -1,18 +1,21 @@
 -- Lists of edges tallied, whatever is made of the tally. In order: counts and tallies of two lists one after the other, in either order; the
--- place by the number of edges that have the point, and the tally; on the border where some edge of the list has the point, and only there.
+-- walk, which comes to an edge or to its end; the place by the number of edges that have the point, and the tally; on the border where some edge
+-- of the list has the point, and only there.
 -- Not here: the rule that makes a place of a tally (`Rule`); lists of corners (`Listing`). Assumes nothing.
 use mathlib.Core.Path.{_≡_, refl, sym, ap, ap₂, _∙_}
-use mathlib.Core.Bool.{Bool, true, false, cond, _||_}
+use mathlib.Core.Bool.{Bool, true, false, cond}
 use mathlib.Core.List.{List, [], _∷_, _++_, List·Memᴰ, List·Memᴰ·head, List·Memᴰ·tail}
-use mathlib.Core.Logic.{_↔_, Iff·trans, _⊎_, ⊎-elim}
+use mathlib.Core.Logic.{_↔_, Iff·trans, _⊎_, inl, inr, ⊎-elim}
 use Prim.Native.Nat.{ℕ, zero, suc, _+_, _<_}
 use native.Mathlib.Omega.{arith}
+use lib.IntN.{pos}
+use lib.ListN.{length}
 use Rattle.ground.specs.Plane.{Spot}
 use Rattle.ground.specs.Edge.{Edge, onEdge, isUp, isDown}
-use Rattle.ground.specs.Zone.{countOf, tallyOf, Lies, border, placeNumber, offBorder, walk, placeOf}
+use Rattle.ground.specs.Zone.{countOf, tallyOf, totalOf, Lies, border, placeNumber, offBorder, walk, placeOf}
 use Rattle.ground.specs.Listing.{turnedRound, together, Met}
-use Rattle.ground.proofs.Laws.Edges.{crossing-once, on-round}
-use Rattle.ground.proofs.Laws.Rule.{off-not-border, off-inside}
+use Rattle.ground.proofs.Laws.Edges.{on-round}
+use Rattle.ground.proofs.Laws.Rule.{off-not-border, number-inside}
 
 -- ---- one list after the other
 pub count-append : (is : Edge → Spot → Bool) (es fs : List Edge) (p : Spot) → countOf is (es ++ fs) p ≡ countOf is es p + countOf is fs p
@@ -38,15 +41,28 @@ module _ (es fs : List Edge) (p : Spot) where
   unfolding tallyOf
   tally-exchanged = tally-counts (es ++ fs) p _ _ (count-exchanged isUp es fs p) (count-exchanged isDown es fs p)
 
--- ups and downs together are the edges that count: none counts twice
-pub count-either : (es : List Edge) (p : Spot) → countOf (λ e q. isUp e q || isDown e q) es p ≡ countOf isUp es p + countOf isDown es p
-unfolding countOf
-count-either [] p = refl
-count-either (e ∷ es) p = omega (arith, count-either es p, either (isUp e p) (isDown e p) (crossing-once e p))
+-- ---- the walk
+-- some edge has the point, and the walk never comes to what is answered off the border; or none has it, and that is what it answers
+abbrev Walked : List Edge → Spot → Type 0
+Walked es p = (Met es p × ((k : ℕ) (l m : Lies) → walk k es p l ≡ walk k es p m)) ⊎ ((k : ℕ) (l : Lies) → walk k es p l ≡ l)
+
+pub walked : (es : List Edge) (p : Spot) → Walked es p
+unfolding walk
+walked [] p = inr (λ k l. refl)
+walked (e ∷ es) p = go (onEdge e p) refl (walked es p)
   where
-    either : (s t : Bool) → (s ≡ true → t ≡ false) → _≡_ {A = ℕ} (cond (s || t) 1 0) (cond s 1 0 + cond t 1 0)
-    either true t h = rw (h refl)
-    either false t h = omega arith
+    go : (t : Bool) → onEdge e p ≡ t → Walked es p → Walked (e ∷ es) p
+    go true h w = inl (record { at = e; listed = List·Memᴰ·head refl; on = h }, λ k l m. rw h)
+    go false h (inl (met, same)) =
+        inl (record { at = met .at; listed = List·Memᴰ·tail (met .listed); on = met .on }, λ k l m. rw h (same (k + 1) l m))
+    go false h (inr off) = inr (λ k l. rw h (off (k + 1) l))
+
+-- one list after the other
+pub walk-append : (k : ℕ) (es fs : List Edge) (p : Spot) (l : Lies) → walk k (es ++ fs) p l ≡ walk k es p (walk (k + length es) fs p l)
+unfolding walk
+walk-append k [] fs p l = ap (λ (i : ℕ). walk i fs p l) (omega arith)
+walk-append k (e ∷ es) fs p l =
+    ap (cond (onEdge e p) (border k)) (walk-append (k + 1) es fs p l ∙ ap (λ (i : ℕ). walk (k + 1) es p (walk i fs p l)) (omega arith))
 
 -- ---- the place's number
 -- the border's if some edge has the point on it; otherwise as off the border
@@ -90,10 +106,9 @@ off-place es p h =
     go zero n h = refl
     go (suc k) n h = absurd (h refl)
 
--- inside: ups and downs differ
-pub inside-uneven : (es : List Edge) (p : Spot) → placeNumber (placeOf es p) ≡ 2 → countOf isUp es p ≡ countOf isDown es p → ⊥
-unfolding tallyOf
-inside-uneven es p i = off-inside (tallyOf es p) (sym (off-place es p (λ e. omega arith)) ∙ i)
+-- inside: the total is not 0
+pub inside-total : (es : List Edge) (p : Spot) → placeNumber (placeOf es p) ≡ 2 → totalOf (tallyOf es p) ≡ pos 0 → ⊥
+inside-total es p i = number-inside (tallyOf es p) (sym (off-place es p (λ e. omega arith)) ∙ i)
 
 -- ---- on the border
 count-some : {e : Edge} {es : List Edge} (is : Edge → Spot → Bool) (p : Spot) → List·Memᴰ e es → is e p ≡ true

@@ -17,11 +17,12 @@ use Rattle.whole.proofs.Laws.Order.{<-or-≤}
 use Rattle.ground.specs.Compare.{atMost, isPositive, isNegative}
 use Rattle.ground.specs.Plane.{Spot, determinant}
 use Rattle.ground.specs.Edge.{edge, edgesFrom, edgesOf, between, onEdge, isUp, isDown}
-use Rattle.ground.specs.Zone.{countOf}
-use Rattle.ground.specs.Listing.{Relisted, placeIn}
+use Rattle.ground.specs.Zone.{countOf, tallyOf}
+use Rattle.ground.specs.Listing.{Relisted, placeIn, totalIn}
 use Rattle.ground.proofs.Laws.Compare.{at-most-says, below-says, below-not}
 use Rattle.ground.proofs.Laws.Edges.{determinant-round, between-told}
-use Rattle.ground.proofs.Laws.Tally.{inside-uneven, border-met}
+use Rattle.ground.proofs.Laws.Rule.{total-zero}
+use Rattle.ground.proofs.Laws.Tally.{inside-total, border-met}
 use Rattle.ground.proofs.Laws.Listing.{start-place, back-place, relisted-place}
 use Rattle.ground.proofs.Laws.Weights.{Balance, NoneBelow, Height, Left, Right, counts, uneven-none-below, share-between}
 
@@ -75,11 +76,11 @@ module _ (z : Spot) where
   abbrev pub right : Spot → Spot → Bool
   right a b = isNegative (determinant a b z)
 
-  edge-up : (a b : Spot) → isUp (edge a b) z ≡ ((low a && not (low b)) && left a b)
+  pub edge-up : (a b : Spot) → isUp (edge a b) z ≡ ((low a && not (low b)) && left a b)
   unfolding isUp
   edge-up a b = rw (below-not (b .y) (z .y))
 
-  edge-down : (a b : Spot) → isDown (edge a b) z ≡ ((low b && not (low a)) && right a b)
+  pub edge-down : (a b : Spot) → isDown (edge a b) z ≡ ((low b && not (low a)) && right a b)
   unfolding isDown
   edge-down a b = rw (below-not (a .y) (z .y))
 
@@ -96,9 +97,11 @@ module _ (z : Spot) where
 
 -- ---- inside a triangle listed counter-clockwise
 module _ (p q r z : Spot) where
-  none-below : pos 0 <ᶻ determinant p q r → placeIn (p ∷ q ∷ r ∷ []) z ≡ 2
+  -- where the total is not 0 no side is below 0
+  pub total-none-below : pos 0 <ᶻ determinant p q r → (totalIn (p ∷ q ∷ r ∷ []) z ≡ pos 0 → ⊥)
       → NoneBelow (determinant q r z) (determinant r p z) (determinant p q z)
-  none-below h i =
+  unfolding tallyOf
+  total-none-below h i =
       let A = determinant q r z in
       let B = determinant r p z in
       let C = determinant p q z in
@@ -106,7 +109,11 @@ module _ (p q r z : Spot) where
       (isPositive C) (isNegative C) (isPositive A) (isNegative A) (isPositive B) (isNegative B) (balance p q r z h)
       (height-told (p .y) (z .y)) (height-told (q .y) (z .y)) (height-told (r .y) (z .y))
       (left-told C) (right-told C) (left-told A) (right-told A) (left-told B) (right-told B)
-      (λ e. inside-uneven (edgesOf (p ∷ q ∷ r ∷ [])) z i (ups-counted z p q r ∙ e ∙ sym (downs-counted z p q r)))
+      (λ e. i (total-zero (tallyOf (edgesOf (p ∷ q ∷ r ∷ [])) z) .1 (ups-counted z p q r ∙ e ∙ sym (downs-counted z p q r))))
+
+  none-below : pos 0 <ᶻ determinant p q r → placeIn (p ∷ q ∷ r ∷ []) z ≡ 2
+      → NoneBelow (determinant q r z) (determinant r p z) (determinant p q z)
+  none-below h i = total-none-below h (inside-total (edgesOf (p ∷ q ∷ r ∷ [])) z i)
 
 -- ---- side 0 against an edge, no other side below 0
 -- D parts of the way from a to v are B of that from a to b, and C of another, which are none; so from v to b

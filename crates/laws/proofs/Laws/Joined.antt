@@ -1,49 +1,24 @@
 -- Two zones that share an edge, or a chain of edges, and their joint outline, by what `zone` answers of the three: laws of whatever keeps its
--- promise. The corners count by what they are worth; each list begins anywhere and runs either way (`Joined` of `ground`). In order: a place
--- by its number; on the outline's border; on an edge that the two share; inside the outline, and outside it. Assumes nothing.
-use mathlib.Core.Path.{_≡_, refl, sym, ap, _∙_}
+-- promise. The corners count by what they are worth; each list begins anywhere and runs either way (`Joined` of `ground`). In order: on the
+-- outline's border; on an edge that the two share; inside the outline, and outside it. Not here: the totals (`Joined` of `ground`). Assumes nothing.
+use mathlib.Core.Path.{_≡_, sym, ap, _∙_}
 use mathlib.Core.List.{List}
 use mathlib.Core.Logic.{_⊎_, ⊎-map}
 use Prim.Native.Nat.{ℕ}
-use native.Mathlib.Omega.{arith}
 use lib.Ieee.{Float}
-use Rattle.ground.specs.Zone.{placeNumber}
+use Rattle.ground.specs.Parity.{Agreed, Small}
 use Rattle.ground.specs.Listing.{placeIn, Met, Joined, sharedEdges}
-use Rattle.ground.proofs.Laws.Joined.{chain-border, joint-border, joined-inside, joined-outside}
+use Rattle.ground.proofs.Laws.Odd.{small-agreed}
+use Rattle.ground.proofs.Laws.Joined.{chain-border, joint-border, joined-inside, joined-kept, joined-outside}
 use Rattle.point.specs.declared.Point.{Point}
 use Rattle.point.specs.Spot.{spotOf}
-use Rattle.geometry.specs.Zone.{cornersOf, placeSaid, ZoneSays}
+use Rattle.geometry.specs.Zone.{cornersOf, ZoneSays}
+use Rattle.geometry.specs.Reasons.{totalIn}
 use Rattle.geometry.specs.declared.answer.Place.{Place}
 use Rattle.geometry.specs.declared.answer.Place.the-variants.{Outside, Border, Inside}
 use Rattle.geometry.specs.declared.answer.Zone.the-variants.{At}
 use Rattle.geometry.proofs.Laws.Calls.{place-inside, place-outside, place-border}
-use Rattle.laws.proofs.Laws.Zones.{zone-number}
-
--- ---- a place by its number
-abbrev number : Place → ℕ
-number l = placeNumber (placeSaid l)
-
-number-inside : (l : Place) → number l ≡ 2 → l ≡ Inside
-number-inside Outside e = let z : ⊥ = omega (arith, e, place-outside) in absurd z
-number-inside (Border k) e = let z : ⊥ = omega (arith, e, place-border k) in absurd z
-number-inside Inside e = refl
-
-number-outside : (l : Place) → number l ≡ 0 → l ≡ Outside
-number-outside Outside e = refl
-number-outside (Border k) e = let z : ⊥ = omega (arith, e, place-border k) in absurd z
-number-outside Inside e = let z : ⊥ = omega (arith, e, place-inside) in absurd z
-
-number-border : (l : Place) → number l ≡ 1 → (k : ℕ) × (l ≡ Border k)
-number-border Outside e = let z : ⊥ = omega (arith, e, place-outside) in absurd z
-number-border (Border k) e = (k, refl)
-number-border Inside e = let z : ⊥ = omega (arith, e, place-inside) in absurd z
-
--- on no edge
-abbrev pub OffBorder : Place → Type 0
-OffBorder l = (k : ℕ) → l ≡ Border k → ⊥
-
-off-number : (l : Place) → OffBorder l → number l ≡ 1 → ⊥
-off-number l off e = let (k, b) = number-border l e in off k b
+use Rattle.laws.proofs.Laws.Zones.{number, number-inside, number-outside, number-border, OffBorder, off-number, zone-number}
 
 -- ---- the three zones: one, two, and the outline of both together
 module _ (xs ys zs : List Float) (p : Point) (l m o : Place) (j : Joined (cornersOf xs) (cornersOf ys) (cornersOf zs))
@@ -70,13 +45,27 @@ module _ (xs ys zs : List Float) (p : Point) (l m o : Place) (j : Joined (corner
       (number-border l (one ∙ f), number-border m (two ∙ g))
 
   module _ (offOne : OffBorder l) (offTwo : OffBorder m) where
-    -- inside the outline and on neither border: inside exactly one of the two
-    pub zone-joined-inside : o ≡ Inside → ((l ≡ Inside) × (m ≡ Outside)) ⊎ ((l ≡ Outside) × (m ≡ Inside))
+    -- inside the outline and on neither border: inside one of the two, or both
+    pub zone-joined-inside : o ≡ Inside → (l ≡ Inside) ⊎ (m ≡ Inside)
     zone-joined-inside e =
-        ⊎-map (λ (f, g). (number-inside l (one ∙ f), number-outside m (two ∙ g)))
-        (λ (f, g). (number-outside l (one ∙ f), number-inside m (two ∙ g)))
+        ⊎-map (λ f. number-inside l (one ∙ f)) (λ f. number-inside m (two ∙ f))
         (joined-inside j (spotOf p) (λ f. off-number l offOne (one ∙ f)) (λ f. off-number m offTwo (two ∙ f))
         (sym outline ∙ ap number e ∙ place-inside))
+
+    -- and where the three totals are odd or 0, so that the rule before said the same of all three: inside exactly one of the two
+    pub zone-joined-kept : Agreed (totalIn xs p) → Agreed (totalIn ys p) → Agreed (totalIn zs p)
+        → o ≡ Inside → ((l ≡ Inside) × (m ≡ Outside)) ⊎ ((l ≡ Outside) × (m ≡ Inside))
+    zone-joined-kept s t u e =
+        ⊎-map (λ (f, g). (number-inside l (one ∙ f), number-outside m (two ∙ g)))
+        (λ (f, g). (number-outside l (one ∙ f), number-inside m (two ∙ g)))
+        (joined-kept j (spotOf p) (λ f. off-number l offOne (one ∙ f)) (λ f. off-number m offTwo (two ∙ f)) s t u
+        (sym outline ∙ ap number e ∙ place-inside))
+
+    -- so where they are from -1 to 1
+    pub zone-joined-once : Small (totalIn xs p) → Small (totalIn ys p) → Small (totalIn zs p)
+        → o ≡ Inside → ((l ≡ Inside) × (m ≡ Outside)) ⊎ ((l ≡ Outside) × (m ≡ Inside))
+    zone-joined-once s t u =
+        zone-joined-kept (small-agreed (totalIn xs p) s) (small-agreed (totalIn ys p) t) (small-agreed (totalIn zs p) u)
 
     -- outside the outline and on neither border: in both or in neither
     pub zone-joined-outside : o ≡ Outside → ((l ≡ Inside) × (m ≡ Inside)) ⊎ ((l ≡ Outside) × (m ≡ Outside))

@@ -1,10 +1,13 @@
 -- What `zone` answers, for a reader: laws of whatever keeps its promise. Corners and points count by what they are worth, so that a corner at -0
--- is the corner at +0. In order: the answer by the rule; equal corners; another list of the same round; a point on an edge, and on an edge
--- that two zones share; two triangles on the two sides of an edge. Not here: joint outlines (`Joined`). Assumes nothing.
-use mathlib.Core.Path.{_≡_, sym, ap, ap₂, _∙_}
+-- is the corner at +0. In order: a place by its number; the answer by the rule; equal corners; another list of the same round; a point on an
+-- edge, and on an edge that two zones share; two triangles on the two sides of an edge. Not here: joint outlines (`Joined`); zones that pass a corner
+-- twice (`Loops`); the rule by odd or even (`Parity`). Assumes nothing.
+use mathlib.Core.Path.{_≡_, refl, sym, ap, ap₂, _∙_}
 use mathlib.Core.Bool.{true}
 use mathlib.Core.List.{List, [], _∷_, List·Memᴰ}
 use mathlib.Core.Logic.{_⊎_, inl, inr}
+use Prim.Native.Nat.{ℕ}
+use native.Mathlib.Omega.{arith}
 use lib.IntN.{pos}
 use lib.Ieee.{Float}
 use Rattle.whole.specs.Order.{_<ᶻ_}
@@ -20,13 +23,39 @@ use Rattle.point.specs.declared.Point.{Point}
 use Rattle.point.specs.Spot.{spotOf}
 use Rattle.geometry.specs.Zone.{cornersOf, placeSaid, ZoneSays}
 use Rattle.geometry.specs.declared.answer.Place.{Place}
-use Rattle.geometry.specs.declared.answer.Place.the-variants.{Inside}
+use Rattle.geometry.specs.declared.answer.Place.the-variants.{Outside, Border, Inside}
 use Rattle.geometry.specs.declared.answer.Zone.the-variants.{At}
 use Rattle.geometry.proofs.Laws.Zone.{place-once}
-use Rattle.geometry.proofs.Laws.Calls.{zone-lies, place-inside}
+use Rattle.geometry.proofs.Laws.Calls.{zone-lies, place-inside, place-outside, place-border}
+
+-- ---- a place by its number
+abbrev pub number : Place → ℕ
+number l = placeNumber (placeSaid l)
+
+pub number-inside : (l : Place) → number l ≡ 2 → l ≡ Inside
+number-inside Outside e = let z : ⊥ = omega (arith, e, place-outside) in absurd z
+number-inside (Border k) e = let z : ⊥ = omega (arith, e, place-border k) in absurd z
+number-inside Inside e = refl
+
+pub number-outside : (l : Place) → number l ≡ 0 → l ≡ Outside
+number-outside Outside e = refl
+number-outside (Border k) e = let z : ⊥ = omega (arith, e, place-border k) in absurd z
+number-outside Inside e = let z : ⊥ = omega (arith, e, place-inside) in absurd z
+
+pub number-border : (l : Place) → number l ≡ 1 → (k : ℕ) × (l ≡ Border k)
+number-border Outside e = let z : ⊥ = omega (arith, e, place-outside) in absurd z
+number-border (Border k) e = (k, refl)
+number-border Inside e = let z : ⊥ = omega (arith, e, place-inside) in absurd z
+
+-- on no edge
+abbrev pub OffBorder : Place → Type 0
+OffBorder l = (k : ℕ) → l ≡ Border k → ⊥
+
+pub off-number : (l : Place) → OffBorder l → number l ≡ 1 → ⊥
+off-number l off e = let (k, b) = number-border l e in off k b
 
 -- ---- the answer by the rule: 0, 1, 2 for outside, border, inside
-pub zone-number : (xs : List Float) (p : Point) (l : Place) → ZoneSays xs p (At l) → placeNumber (placeSaid l) ≡ placeIn (cornersOf xs) (spotOf p)
+pub zone-number : (xs : List Float) (p : Point) (l : Place) → ZoneSays xs p (At l) → number l ≡ placeIn (cornersOf xs) (spotOf p)
 zone-number xs p l h = ap placeNumber (sym (zone-lies xs p l h))
 
 -- ---- corners and points of the same worth have the same answer, the edge's number too

@@ -7,10 +7,9 @@ use borrow.Author.Needs.{needs}
 use Rattle.point.specs.Accepted.{Accepted}
 use Rattle.point.specs.Spot.{spotOf}
 use Rattle.geometry.specs.Zone.{placeIn, cornersOf, cornerAt, nextOf, placeSaid}
-use Rattle.ground.specs.Edge.{edge, edgesOf, onEdge, isUp, isDown}
+use Rattle.ground.specs.Edge.{edge, edgesOf, onEdge}
 use Rattle.ground.specs.Zone.{border}
-use Rattle.geometry.specs.declared.zones.Counts.{Counts}
-use Rattle.geometry.proofs.Laws.Zone.{next-inside, count-few, offOf, walkFrom, walk-start, walk-here, walk-later, walk-end}
+use Rattle.geometry.proofs.Laws.Zone.{next-inside, offOf, walkFrom, walk-start, walk-here, walk-later, walk-end}
 use Rattle.geometry.proofs.Laws.Zone.{off-inside, off-outside}
 use Rattle.geometry.proofs.zones.place.Statement.{statement}
 use Rattle.geometry.proofs.zones.place.Tie as tie
@@ -104,14 +103,6 @@ returns c = found (c .before) (c .if3 .taken)
 counted-requires : tie.Need-counted-requires Inv-loop μ-loop
 counted-requires c κs = search needs
 
-add-if4 : tie.Need-add-if4 Inv-loop μ-loop
-add-if4 c =
-    let s = c .before .before .before .before .before .before in
-    let z = s .pre .0 in
-    let few = count-few (s .args .corners .now) (s .args .n) (s .args .p) (z .corners) in
-    let e = c .before .counted .ensures in
-    omega (arith, few isUp 0, few isDown 0, ap (λ (t : Counts). t .ups) e, ap (λ (t : Counts). t .downs) e, z .few)
-
 returns-2 : tie.Need-returns-2 Inv-loop μ-loop
 unfolding placeSaid
 returns-2 c =
@@ -138,6 +129,5 @@ place-spec =
     loop-again
     returns
     counted-requires
-    add-if4
     returns-2
     returns-3)
