@@ -8,7 +8,7 @@ use Prim.Native.Nat.{ℕ}
 use lib.Ieee.{Float}
 use Rattle.ground.specs.Plane.{Spot}
 use Rattle.ground.specs.Edge.{edgesOf}
-use Rattle.ground.specs.Zone.{Lies, placeOf}
+use Rattle.ground.specs.Zone.{placeOf}
 use Rattle.ground.specs.Parity.{placeByParity, Agreed, Small}
 use Rattle.ground.specs.Convex.{Convex}
 use Rattle.ground.proofs.Laws.Tally.{border-met}
@@ -22,11 +22,8 @@ use Rattle.geometry.specs.declared.answer.Place.{Place}
 use Rattle.geometry.specs.declared.answer.Place.the-variants.{Border}
 use Rattle.geometry.specs.declared.answer.Zone.the-variants.{At}
 use Rattle.geometry.proofs.Laws.Calls.{zone-lies, place-border}
+use Rattle.laws.specs.Parity.{oddOrEven}
 use Rattle.laws.proofs.Laws.Zones.{number, number-border, zone-number}
-
--- the place by odd or even
-abbrev pub oddOrEven : List Float → Point → Lies
-oddOrEven xs p = placeByParity (edgesOf (cornersOf xs)) (spotOf p)
 
 module _ (xs : List Float) (p : Point) (l : Place) (h : ZoneSays xs p (At l)) where
   -- the same answer as before exactly on the border, and where the total is odd or 0
