@@ -18,34 +18,23 @@ use Rattle.ground.specs.Parity.{placeByParity, Small}
 use Rattle.ground.specs.Listing.{totalIn}
 use Rattle.ground.specs.Convex.{LeftOf, All, Fan, Round, Convex}
 use Rattle.ground.proofs.Laws.Compare.{at-most-says, below-says, below-not}
+use Rattle.ground.proofs.Laws.Edges.{turn-around}
 use Rattle.ground.proofs.Laws.Listing.{back-tally}
+use Rattle.ground.proofs.Laws.Weights.{lt-le, difference-nonneg, difference-above}
 use Rattle.ground.proofs.Laws.Triangles.{low, left, right, edge-up, edge-down}
 use Rattle.ground.proofs.Laws.Parity.{small-place, few-small}
 
 -- ---- four corners in turn
-pub around : (a b c : Spot) → LeftOf a b c → LeftOf b c a
-around a b c =
-    ints (a .x ∷ a .y ∷ b .x ∷ b .y ∷ c .x ∷ c .y ∷ []) (λ ρ v n m. simp (int-rules, n, v 0, v 1, v 2, v 3, v 4, v 5) (omega arith))
-
 -- bcd·a - acd·b + abd·c - abc·d is 0, of heights over z too: with a and c low, b and d high it would be below 0
 not-in-turn : (a b c d : Spot) (z : ℤ) → LeftOf a b c → LeftOf a b d → LeftOf a c d → LeftOf b c d
     → a .y ≤ᶻ z → z <ᶻ b .y → c .y ≤ᶻ z → z <ᶻ d .y → ⊥
 not-in-turn a b c d z abc abd acd bcd la hb lc hd =
     clash
-    (mul-positive (determinant a c d) (b .y -ℤ z) acd (over z (b .y) hb))
-    (mul-positive (determinant a b c) (d .y -ℤ z) abc (over z (d .y) hd))
-    (mul-nonneg (determinant b c d) (z -ℤ a .y) (weak (determinant b c d) bcd) (under (a .y) z la))
-    (mul-nonneg (determinant a b d) (z -ℤ c .y) (weak (determinant a b d) abd) (under (c .y) z lc))
+    (mul-positive (determinant a c d) (b .y -ℤ z) acd (difference-above z (b .y) hb))
+    (mul-positive (determinant a b c) (d .y -ℤ z) abc (difference-above z (d .y) hd))
+    (mul-nonneg (determinant b c d) (z -ℤ a .y) (lt-le (pos 0) (determinant b c d) bcd) (difference-nonneg (a .y) z la))
+    (mul-nonneg (determinant a b d) (z -ℤ c .y) (lt-le (pos 0) (determinant a b d) abd) (difference-nonneg (c .y) z lc))
   where
-    weak : (y : ℤ) → pos 0 <ᶻ y → pos 0 ≤ᶻ y
-    weak y = ints (y ∷ []) (λ ρ v n m. simp (int-rules, n, v 0) (omega arith))
-
-    under : (y z : ℤ) → y ≤ᶻ z → pos 0 ≤ᶻ z -ℤ y
-    under y z = ints (y ∷ z ∷ []) (λ ρ v n m. simp (int-rules, n, v 0, v 1) (omega arith))
-
-    over : (y z : ℤ) → y <ᶻ z → pos 0 <ᶻ z -ℤ y
-    over y z = ints (y ∷ z ∷ []) (λ ρ v n m. simp (int-rules, n, v 0, v 1) (omega arith))
-
     clash : pos 0 <ᶻ determinant a c d *ℤ (b .y -ℤ z) → pos 0 <ᶻ determinant a b c *ℤ (d .y -ℤ z)
         → pos 0 ≤ᶻ determinant b c d *ℤ (z -ℤ a .y) → pos 0 ≤ᶻ determinant a b d *ℤ (z -ℤ c .y) → ⊥
     clash =
@@ -137,7 +126,7 @@ module _ (p : Spot) where
   highs : (a b c d : Spot) → LeftOf a b c → LeftOf a b d → LeftOf a c d → LeftOf b c d
       → high a ≡ true → high b ≡ false → high c ≡ true → high d ≡ false → ⊥
   highs a b c d abc abd acd bcd ha lb hc ld =
-      lows b c d a bcd (around a b c abc) (around a b d abd) (around a c d acd)
+      lows b c d a bcd (turn-around a b c abc) (turn-around a b d abd) (turn-around a c d acd)
       (not-not (low p b) lb) (not-yet (low p c) hc) (not-not (low p d) ld) (not-yet (low p a) ha)
 
   -- a way falls where it rises from high to low

@@ -1,13 +1,17 @@
--- One edge. In order: the determinant of a turned edge is the negative; a value between two others, from the order and back; what it says that
--- a point is on an edge; the edge from its other end has the same points on it, and counts up where the other counts down; no edge counts both ways.
+-- One edge. In order: the determinant of a turned edge is the negative, and the turn is the same begun at the next point; a value between two
+-- others, from the order and back; what it says that a point is on an edge; the edge from its other end has the same points on it, and counts up
+-- where the other counts down; no edge counts both ways.
 -- Not here: lists of edges (`Tally`). Assumes nothing.
 use mathlib.Core.Path.{_≡_, refl, sym, _∙_, subst}
 use mathlib.Core.Bool.{Bool, true, false, _&&_, _||_}
+use mathlib.Core.List.{[], _∷_}
 use mathlib.Core.Logic.{_⊎_, inl, inr}
 use Prim.Native.Nat.{zero, suc}
+use native.Mathlib.Omega.{arith}
 use lib.Dec.{T}
 use lib.IntN.{ℤ, pos, negsuc, negℤ, _-ℤ_, _*ℤ_}
-use Rattle.whole.specs.Order.{_≤ᶻ_}
+use Rattle.whole.specs.Order.{_≤ᶻ_, _<ᶻ_}
+use Rattle.whole.proofs.Laws.Linear.{ints, int-rules}
 use Rattle.whole.proofs.Laws.Ring.{Expr, _:-_, _:*_, opp, solve}
 use Rattle.ground.specs.Compare.{atMost, below, isZero, isPositive, isNegative}
 use Rattle.ground.specs.Plane.{Spot, determinant}
@@ -27,6 +31,11 @@ det-round = solve 6 (λ px py qx qy rx ry. (detExpr qx qy px py rx ry, opp (detE
 
 pub determinant-round : (p q r : Spot) → determinant q p r ≡ negℤ (determinant p q r)
 determinant-round p q r = det-round (p .x) (p .y) (q .x) (q .y) (r .x) (r .y)
+
+-- the same turn, begun at the next point
+pub turn-around : (a b c : Spot) → pos 0 <ᶻ determinant a b c → pos 0 <ᶻ determinant b c a
+turn-around a b c =
+    ints (a .x ∷ a .y ∷ b .x ∷ b .y ∷ c .x ∷ c .y ∷ []) (λ ρ v n m. simp (int-rules, n, v 0, v 1, v 2, v 3, v 4, v 5) (omega arith))
 
 -- ---- between two values
 either-order : (s t : Bool) → (s || t) ≡ (t || s)

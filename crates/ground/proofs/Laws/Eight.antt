@@ -15,14 +15,14 @@ use Rattle.ground.specs.Edge.{edge, edgesFrom, edgesOf, onEdge}
 use Rattle.ground.specs.Zone.{countOf, tallyOf, totalOf}
 use Rattle.ground.specs.Listing.{placeIn, totalIn}
 use Rattle.ground.specs.Convex.{LeftOf, Crossed}
-use Rattle.ground.proofs.Laws.Edges.{between-says, on-says, determinant-round}
+use Rattle.ground.proofs.Laws.Edges.{between-says, on-says, determinant-round, turn-around}
 use Rattle.ground.proofs.Laws.Rule.{off-told, off-number}
 use Rattle.ground.proofs.Laws.Tally.{off-place, border-count}
 use Rattle.ground.proofs.Laws.Listing.{back-total}
+use Rattle.ground.proofs.Laws.Weights.{lt-le, turned-nonneg, difference-nonneg, difference-above}
 use Rattle.ground.proofs.Laws.Triangles.{total-none-below}
 use Rattle.ground.proofs.Laws.Joined.{joined-total}
 use Rattle.ground.proofs.Laws.Sides.{positive-told, sides-tally}
-use Rattle.ground.proofs.Laws.Convex.{around}
 
 -- ---- a point on an edge, and a line that has both ends on its right, or on it
 -- along one axis: F, U and W are the sides of the point and of the ends, g with a letter where each stands
@@ -31,28 +31,19 @@ by-axis : (F U W gu gv gp : ℤ) → F *ℤ (gv -ℤ gu) ≡ U *ℤ (gv -ℤ gp)
 by-axis F U W gu gv gp e b hU hW = elim (compared gu gv) [
   | less l ↦ inl (not-above F (λ f. ⊎-elim
       (λ (h, k).
-      rising e (mul-positive F (gv -ℤ gu) f (gap gu gv l))
-      (mul-nonneg (pos 0 -ℤ U) (gv -ℤ gp) (turned U hU) (room gp gv k)) (mul-nonneg (pos 0 -ℤ W) (gp -ℤ gu) (turned W hW) (room gu gp h)))
+      rising e (mul-positive F (gv -ℤ gu) f (difference-above gu gv l))
+      (mul-nonneg (pos 0 -ℤ U) (gv -ℤ gp) (turned-nonneg U hU) (difference-nonneg gp gv k)) (mul-nonneg (pos 0 -ℤ W) (gp -ℤ gu) (turned-nonneg W hW) (difference-nonneg gu gp h)))
       (λ (h, k). out-of-order gu gv gp l h k) b))
   | equal l ↦ inr l
   | more l ↦ inl (not-above F (λ f. ⊎-elim
       (λ (h, k). out-of-order gv gu gp l h k)
       (λ (h, k).
-      falling e (mul-positive F (gu -ℤ gv) f (gap gv gu l))
-      (mul-nonneg (pos 0 -ℤ U) (gp -ℤ gv) (turned U hU) (room gv gp h)) (mul-nonneg (pos 0 -ℤ W) (gu -ℤ gp) (turned W hW) (room gp gu k))) b))
+      falling e (mul-positive F (gu -ℤ gv) f (difference-above gv gu l))
+      (mul-nonneg (pos 0 -ℤ U) (gp -ℤ gv) (turned-nonneg U hU) (difference-nonneg gv gp h)) (mul-nonneg (pos 0 -ℤ W) (gu -ℤ gp) (turned-nonneg W hW) (difference-nonneg gp gu k))) b))
 ]
   where
     not-above : (z : ℤ) → (pos 0 <ᶻ z → ⊥) → z ≤ᶻ pos 0
     not-above z h = ⊎-elim (λ l. absurd (h l)) (λ l. l) (<-or-≤ (pos 0) z)
-
-    gap : (y z : ℤ) → y <ᶻ z → pos 0 <ᶻ z -ℤ y
-    gap y z = ints (y ∷ z ∷ []) (λ ρ v n m. simp (int-rules, n, v 0, v 1) (omega arith))
-
-    room : (y z : ℤ) → y ≤ᶻ z → pos 0 ≤ᶻ z -ℤ y
-    room y z = ints (y ∷ z ∷ []) (λ ρ v n m. simp (int-rules, n, v 0, v 1) (omega arith))
-
-    turned : (z : ℤ) → z ≤ᶻ pos 0 → pos 0 ≤ᶻ pos 0 -ℤ z
-    turned z = ints (z ∷ []) (λ ρ v n m. simp (int-rules, n, v 0) (omega arith))
 
     out-of-order : (y z w : ℤ) → y <ᶻ z → z ≤ᶻ w → w ≤ᶻ y → ⊥
     out-of-order y z w = ints (y ∷ z ∷ w ∷ []) (λ ρ v n m. simp (int-rules, v 0, v 1, v 2) (omega arith))
@@ -121,21 +112,15 @@ module _ (a b c d p : Spot) (x : Crossed a b c d) (ab : LeftOf a b p) (bc : Left
   ca =
       ⊎-elim (λ l. l)
       (λ l. absurd (no-way fan
-      (mul-positive (determinant c a d) (determinant c p b) (around d c a (x .other-start)) (around b c p bc))
-      (mul-positive (determinant c a b) (determinant c d p) (around b c a (around a b c (x .start))) cd)
-      (mul-nonneg (pos 0 -ℤ determinant c a p) (determinant c d b) (turned (determinant c a p) l) (weak (determinant c d b) (x .other-end)))))
+      (mul-positive (determinant c a d) (determinant c p b) (turn-around d c a (x .other-start)) (turn-around b c p bc))
+      (mul-positive (determinant c a b) (determinant c d p) (turn-around b c a (turn-around a b c (x .start))) cd)
+      (mul-nonneg (pos 0 -ℤ determinant c a p) (determinant c d b) (turned-nonneg (determinant c a p) l) (lt-le (pos 0) (determinant c d b) (x .other-end)))))
       (<-or-≤ (pos 0) (determinant c a p))
     where
       fan : determinant c a p *ℤ determinant c d b ≡ determinant c a d *ℤ determinant c p b +ℤ determinant c a b *ℤ determinant c d p
       fan =
           ints (a .x ∷ a .y ∷ b .x ∷ b .y ∷ c .x ∷ c .y ∷ d .x ∷ d .y ∷ p .x ∷ p .y ∷ [])
           (λ ρ v n m. simp (int-rules, v 0, v 1, v 2, v 3, v 4, v 5, v 6, v 7, v 8, v 9) (omega arith))
-
-      turned : (z : ℤ) → z ≤ᶻ pos 0 → pos 0 ≤ᶻ pos 0 -ℤ z
-      turned z = ints (z ∷ []) (λ ρ v n m. simp (int-rules, n, v 0) (omega arith))
-
-      weak : (z : ℤ) → pos 0 <ᶻ z → pos 0 ≤ᶻ z
-      weak z = ints (z ∷ []) (λ ρ v n m. simp (int-rules, n, v 0) (omega arith))
 
       against : (F E P Q : ℤ) → F *ℤ E ≡ P +ℤ Q → pos 0 <ᶻ P → pos 0 <ᶻ Q → pos 0 ≤ᶻ (pos 0 -ℤ F) *ℤ E → ⊥
       against F E P Q = ints (F ∷ E ∷ P ∷ Q ∷ []) (λ ρ v n m. simp (int-rules, n, v 0, v 1, v 2, v 3) (omega arith))

@@ -1,6 +1,6 @@
 -- What is made of a tally off the border: its total, ups less downs, is 0 or not. In order: the total of an opposite tally, of two tallies in
 -- one, and when it is 0; outside where it is 0 and inside where it is not, as a place and as its number; the same for the opposite tally; two
--- tallies whose totals add up to a third's. Only this file goes by the text of the rule.
+-- tallies whose totals add up to a third's. But for computed examples only this file goes by the text of the rule.
 -- Not here: how edges are tallied (`Tally`); the rule by odd or even (`Parity`). Assumes nothing.
 use mathlib.Core.Path.{_≡_, refl, sym, ap, ap₂, _∙_, subst}
 use mathlib.Core.Bool.{Bool, cond}

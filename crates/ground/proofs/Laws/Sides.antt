@@ -17,6 +17,7 @@ use Rattle.ground.specs.Plane.{Spot, determinant}
 use Rattle.ground.specs.Edge.{edgesFrom, edgesOf, onEdge}
 use Rattle.ground.specs.Zone.{countOf, Tally, tallyOf, placeNumber, offBorder}
 use Rattle.ground.specs.Listing.{placeIn}
+use Rattle.ground.proofs.Laws.Edges.{turn-around}
 use Rattle.ground.proofs.Laws.Rule.{off-unequal}
 use Rattle.ground.proofs.Laws.Tally.{tally-counts, off-place, border-count}
 use Rattle.ground.proofs.Laws.Listing.{start-place}
@@ -167,12 +168,8 @@ pub triangle-sides : (p q r z : Spot) → pos 0 <ᶻ determinant p q r → (plac
 triangle-sides p q r z h = (
   (λ i. (
     triangle-left p q r z h i,
-    triangle-left q r p z (turn p q r h) (sym (start-place z (p ∷ []) (q ∷ r ∷ [])) ∙ i),
-    triangle-left r p q z (turn q r p (turn p q r h)) (sym (start-place z (p ∷ q ∷ []) (r ∷ [])) ∙ i),
+    triangle-left q r p z (turn-around p q r h) (sym (start-place z (p ∷ []) (q ∷ r ∷ [])) ∙ i),
+    triangle-left r p q z (turn-around q r p (turn-around p q r h)) (sym (start-place z (p ∷ q ∷ []) (r ∷ [])) ∙ i),
   )),
   (λ s. sides-inside p q r z (s .1) (s .2) (s .0)),
 )
-  where
-    turn : (a b c : Spot) → pos 0 <ᶻ determinant a b c → pos 0 <ᶻ determinant b c a
-    turn a b c =
-        ints (a .x ∷ a .y ∷ b .x ∷ b .y ∷ c .x ∷ c .y ∷ []) (λ ρ v n m. simp (int-rules, n, v 0, v 1, v 2, v 3, v 4, v 5) (omega arith))

@@ -21,7 +21,7 @@ pub record Balance (A B C a b c : ℤ) : Type 0 where
 abbrev pub NoneBelow : ℤ → ℤ → ℤ → Type 0
 NoneBelow A B C = (pos 0 ≤ᶻ A) × (pos 0 ≤ᶻ B) × (pos 0 ≤ᶻ C)
 
-lt-le : (a b : ℤ) → a <ᶻ b → a ≤ᶻ b
+pub lt-le : (a b : ℤ) → a <ᶻ b → a ≤ᶻ b
 lt-le a b = ints (a ∷ b ∷ []) (λ ρ v n m. simp (int-rules, v 0, v 1) (omega arith))
 
 -- 0 is at most z, or z is below it, which is absurd
@@ -32,8 +32,15 @@ not-below z h = ⊎-elim (λ p. absurd (h p)) (λ q. q) (<-or-≤ z (pos 0))
 turned-above : (z : ℤ) → z <ᶻ pos 0 → pos 0 <ᶻ pos 0 -ℤ z
 turned-above z = ints (z ∷ []) (λ ρ v n m. simp (int-rules, n, v 0) (omega arith))
 
-turned-nonneg : (z : ℤ) → z ≤ᶻ pos 0 → pos 0 ≤ᶻ pos 0 -ℤ z
+pub turned-nonneg : (z : ℤ) → z ≤ᶻ pos 0 → pos 0 ≤ᶻ pos 0 -ℤ z
 turned-nonneg z = ints (z ∷ []) (λ ρ v n m. simp (int-rules, n, v 0) (omega arith))
+
+-- the difference of two numbers in order
+pub difference-nonneg : (x y : ℤ) → x ≤ᶻ y → pos 0 ≤ᶻ y -ℤ x
+difference-nonneg x y = ints (x ∷ y ∷ []) (λ ρ v n m. simp (int-rules, n, v 0, v 1) (omega arith))
+
+pub difference-above : (x y : ℤ) → x <ᶻ y → pos 0 <ᶻ y -ℤ x
+difference-above x y = ints (x ∷ y ∷ []) (λ ρ v n m. simp (int-rules, n, v 0, v 1) (omega arith))
 
 -- ---- one corner against two
 module _ (A B C a b c : ℤ) (e : A *ℤ a +ℤ B *ℤ b +ℤ C *ℤ c ≡ pos 0) where
@@ -190,9 +197,6 @@ share-between D A B a b v hD hA hB e f = ⊎-elim (λ p. inl (rising (lt-le a b 
     from-difference : (x y : ℤ) → pos 0 ≤ᶻ y -ℤ x → x ≤ᶻ y
     from-difference x y = ints (x ∷ y ∷ []) (λ ρ v n m. simp (int-rules, n, v 0, v 1) (omega arith))
 
-    difference : (x y : ℤ) → x ≤ᶻ y → pos 0 ≤ᶻ y -ℤ x
-    difference x y = ints (x ∷ y ∷ []) (λ ρ v n m. simp (int-rules, n, v 0, v 1) (omega arith))
-
     from-opposite : (x y : ℤ) → pos 0 ≤ᶻ pos 0 -ℤ (y -ℤ x) → y ≤ᶻ x
     from-opposite x y = ints (x ∷ y ∷ []) (λ ρ v n m. simp (int-rules, n, v 0, v 1) (omega arith))
 
@@ -201,8 +205,8 @@ share-between D A B a b v hD hA hB e f = ⊎-elim (λ p. inl (rising (lt-le a b 
 
     rising : a ≤ᶻ b → (a ≤ᶻ v) × (v ≤ᶻ b)
     rising h = (
-      from-difference a v (share-up D B (v -ℤ a) (b -ℤ a) hD hB e (difference a b h)),
-      from-difference v b (share-up D A (b -ℤ v) (b -ℤ a) hD hA f (difference a b h)),
+      from-difference a v (share-up D B (v -ℤ a) (b -ℤ a) hD hB e (difference-nonneg a b h)),
+      from-difference v b (share-up D A (b -ℤ v) (b -ℤ a) hD hA f (difference-nonneg a b h)),
     )
 
     falling : b ≤ᶻ a → (b ≤ᶻ v) × (v ≤ᶻ a)
