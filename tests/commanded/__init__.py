@@ -9,6 +9,7 @@ from questions.tracks import file_of
 
 ROOT = Path(__file__).resolve().parent.parent.parent
 DESK = str(ROOT / "desk")
+WHY = str(ROOT / "why")
 ASK = str(ROOT / "ask")
 SECONDS = 600
 

@@ -16,22 +16,7 @@ def names(checks, place):
     (place / "commands").mkdir()
     (place / "commands" / "my desk").symlink_to(DESK)
     linked = str(place / "commands" / "my desk")
-    trap = place / "trap"
-    trap.write_text("cd() { builtin cd /; }; CDPATH=/; echo trapped\n")
-    odd = {
-        "CDPATH": f"{place}/elsewhere:/",
-        "BASH_ENV": str(trap),
-        "ENV": str(trap),
-        "BASH_FUNC_cd%%": "() {  builtin cd /\n}",
-        "BASH_FUNC_printf%%": "() {  echo trapped\n}",
-        "OLDPWD": f"{place}/elsewhere/left",
-        "POSIXLY_CORRECT": "1",
-        "IFS": "l",
-        "GLOBIGNORE": "*",
-    }
-    environments = [("a plain environment", {}), ("an odd environment", odd), ("another language", {"LC_ALL": "C"})]
-    for told, environment in environments:
-        environment = os.environ | environment
+    for told, environment in environments(place):
         for desk in (DESK, linked):
             for name in ("left", "left/", "sp ace", "-left", "--left", "*", "$(x)", "ü", "link", f"{place}/left", "./left"):
                 shown = name.rstrip("/")
@@ -45,6 +30,25 @@ def names(checks, place):
     folder(place / "--all")
     checks.equal("a folder --all", run([DESK, "--", "--all"], cwd=place), (f"== --all\n{PLACES}", "", 0))
     checks.equal("bash desk", run(["bash", DESK, "left"], cwd=place, env=os.environ | {"CDPATH": f"{place}/elsewhere"}), (f"== left\n{PLACES}", "", 0))
+
+
+def environments(place):
+    """By their names; the odd one would lead a command to another folder, `elsewhere` or the root, or have it print more."""
+    trap = place / "trap"
+    trap.write_text("cd() { builtin cd /; }; CDPATH=/; echo trapped\n")
+    odd = {
+        "CDPATH": f"{place}/elsewhere:/",
+        "BASH_ENV": str(trap),
+        "ENV": str(trap),
+        "BASH_FUNC_cd%%": "() {  builtin cd /\n}",
+        "BASH_FUNC_printf%%": "() {  echo trapped\n}",
+        "OLDPWD": f"{place}/elsewhere/left",
+        "POSIXLY_CORRECT": "1",
+        "IFS": "l",
+        "GLOBIGNORE": "*",
+    }
+    named = [("a plain environment", {}), ("an odd environment", odd), ("another language", {"LC_ALL": "C"})]
+    return [(told, os.environ | environment) for told, environment in named]
 
 
 def statuses(checks, place):
@@ -108,7 +112,7 @@ def unreadable(checks, place):
     (place / "root" / "closed").chmod(0)
     (place / "root" / "within").chmod(0)
     text = {"closed": "unreadable folder\n", "closed releases": "unreadable releases\n", "closed zone": "unreadable zone\n", "good": PLACES}
-    if subprocess.run([DESK, "--help"], stdout=subprocess.DEVNULL, stderr=subprocess.DEVNULL, preexec_fn=as_nobody).returncode:
+    if is_closed_to_nobody(DESK):
         print("commands: this user's files can not be read by another one, so nothing is tried without rights")
         return
     everything = "".join(f"== {name}\n{expected}" for name, expected in text.items())
@@ -123,21 +127,32 @@ def unreadable(checks, place):
         (place / "root" / path).chmod(0o755)
 
 
+def is_closed_to_nobody(command):
+    return subprocess.run([command, "--help"], stdout=subprocess.DEVNULL, stderr=subprocess.DEVNULL, preexec_fn=as_nobody).returncode != 0
+
+
+# folders that have no places, by names for them: their files, and the explained text; the plain one ends before the colon
+NO_PLACES = {
+    "1 zone": (track(*[0] * 130), THREE, "refused zone 1 0: more corners than a zone may have, or more points than a file may hold\n"),
+    "1": (SQUARE, b"\x81\x04", "refused releases 1 0: more points than a file may hold\n"),
+    "3": (SQUARE, b"\x01\x02\x00", "refused releases 3 1: the coordinate whose number begins at byte 1 is not accepted: it is too large or too small\n"),
+    "4": (track(0, 0), THREE, "refused zone 4 0: too few corners for a zone\n"),
+    "6": (SQUARE, THREE[:-1], CUT[:-1] + f": the file ends inside the number that begins at byte {len(THREE) - 8}\n"),
+    "7": (SQUARE, b"\x80\x00", "refused releases 7 0: the number that begins at byte 0 is not in its shortest form, or is too large\n"),
+    "8": (SQUARE + b"\x00", THREE, f"refused zone 8 {len(SQUARE)}: bytes follow the last number, from byte {len(SQUARE)} on\n"),
+    "unreadable": (SQUARE, None, "unreadable releases\n"),
+}
+
+
+def plain(text):
+    return text.rstrip("\n").split(":")[0] + "\n"
+
+
 def explained(checks, place):
-    cases = {
-        "1 zone": (track(*[0] * 130), THREE, "refused zone 1 0: more corners than a zone may have, or more points than a file may hold\n"),
-        "1": (SQUARE, b"\x81\x04", "refused releases 1 0: more points than a file may hold\n"),
-        "3": (SQUARE, b"\x01\x02\x00", "refused releases 3 1: the coordinate whose number begins at byte 1 is not accepted: it is too large or too small\n"),
-        "4": (track(0, 0), THREE, "refused zone 4 0: too few corners for a zone\n"),
-        "6": (SQUARE, THREE[:-1], CUT[:-1] + f": the file ends inside the number that begins at byte {len(THREE) - 8}\n"),
-        "7": (SQUARE, b"\x80\x00", "refused releases 7 0: the number that begins at byte 0 is not in its shortest form, or is too large\n"),
-        "8": (SQUARE + b"\x00", THREE, f"refused zone 8 {len(SQUARE)}: bytes follow the last number, from byte {len(SQUARE)} on\n"),
-        "unreadable": (SQUARE, None, "unreadable releases\n"),
-        "good": (SQUARE, THREE, PLACES),
-    }
-    for name, (zone, releases, expected) in cases.items():
+    folder(place / "good")
+    for words in (["--explain"], []):
+        checks.equal(f"{words} good", run([DESK, *words, "good"], cwd=place), (f"== good\n{PLACES}", "", 0))
+    for name, (zone, releases, expected) in NO_PLACES.items():
         folder(place / name, zone, releases)
-        found = run([DESK, "--explain", name], cwd=place)
-        checks.equal(f"--explain, {name}", found, (f"== {name}\n{expected}", "", 0 if name == "good" else 1))
-        plain = run([DESK, name], cwd=place)[0]
-        checks.equal(f"without --explain, {name}", plain, f"== {name}\n" + expected.split(":")[0].rstrip("\n") + "\n" if name != "good" else f"== {name}\n{expected}")
+        checks.equal(f"--explain, {name}", run([DESK, "--explain", name], cwd=place), (f"== {name}\n{expected}", "", 1))
+        checks.equal(f"without --explain, {name}", run([DESK, name], cwd=place), (f"== {name}\n{plain(expected)}", "", 1))

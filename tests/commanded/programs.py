@@ -1,23 +1,23 @@
-"""The desk without a toolchain, with programs that fail, and while its program is built: in a copy of what the command needs."""
+"""The desk without a toolchain, with programs that fail, and while its program is built: in a copy of what a command needs."""
 
 import os
 import shutil
 from pathlib import Path
 
-from commanded import CUT, DESK, OTHER, PLACES, ROOT, THREE, folder, run
+from commanded import CUT, OTHER, PLACES, ROOT, THREE, folder, run
 
 MACHINE = os.uname().machine
 NEEDED = ["bash", "cat", "chmod", "find", "getconf", "mktemp", "nproc", "readlink", "rm", "sort", "touch", "uname", "xargs"]
 
 
-def copy_of(place, tools, program):
-    """The repository as a command needs it, with `program` for its desk and these tools on the path alone."""
+def copy_of(place, tools, program, command="desk"):
+    """The repository as a command needs it, with `program` for that command's own and these tools on the path alone."""
     (place / "repository" / "target" / "bin").mkdir(parents=True)
     for name in ("tools", "docs"):
         (place / "repository" / name).symlink_to(ROOT / name)
     (place / "repository" / "crates").mkdir()
-    shutil.copy(DESK, place / "repository" / "desk")
-    (place / "repository" / "crates.txt").write_text("low:\nmiddle: low io # of it\nother:\ndesk: middle low\n")
+    shutil.copy(ROOT / command, place / "repository" / command)
+    (place / "repository" / "crates.txt").write_text(f"low:\nmiddle: low io # of it\nother:\n{command}: middle low\n")
     (place / "path").mkdir()
     for name in tools:
         if shutil.which(name):
@@ -25,9 +25,9 @@ def copy_of(place, tools, program):
     if MACHINE != "x86_64":
         add_emulator(place / "path" / "qemu-x86_64", isinstance(program, Path))
     if program:
-        install(place, program)
+        install(place, program, command)
     environment = {"PATH": str(place / "path"), "TMPDIR": str(place)}
-    return lambda *words, **options: run([str(place / "repository" / "desk"), *words], cwd=place, env=environment, **options)
+    return lambda *words, **options: run([str(place / "repository" / command), *words], cwd=place, env=environment, **options)
 
 
 def add_emulator(path, of_built):
@@ -38,8 +38,8 @@ def add_emulator(path, of_built):
     path.chmod(0o755)
 
 
-def install(place, program):
-    built = place / "repository" / "target" / "bin" / "desk"
+def install(place, program, command="desk"):
+    built = place / "repository" / "target" / "bin" / command
     if isinstance(program, Path):
         shutil.copy(program, built)
     else:

@@ -14,7 +14,9 @@ What the protocol leaves to its words, as read here:
   of spaces alone is not empty;
 - the first word is in lower case, as written; tabs, NULs and carriage returns part no words;
 - bytes, like doubles, are read in either case and written in lower case;
-- a zone has the two words of its point at least, and its list of corners may be empty like others;
+- a zone, as a why after its room, has the two words of its point at least, and its list of corners may
+  be empty like others;
+- a total is written as a sign is, with a minus or nothing before its digits;
 - the answer to read has the two doubles of each point, and no more of the room.
 """
 
@@ -23,6 +25,7 @@ import sys
 import doubles
 import meetings
 import planes
+import reasons
 import sides
 import sums
 import tracks
@@ -37,6 +40,7 @@ ANSWERS = {
     b"plain": sums.answer_plain,
     b"side": sides.answer_side,
     b"zone": zones.answer_zone,
+    b"why": reasons.answer_why,
     b"plane": planes.answer_plane,
     b"meet": meetings.answer_meet,
     b"write": tracks.answer_write,

@@ -2,7 +2,7 @@
 
 from doubles import coordinates, is_coordinate
 from promises import promise
-from words import Refused, Unclear, read_bytes, read_count, read_doubles
+from words import Refused, Unclear, read_bytes, read_doubles, read_room
 
 MOST_POINTS = 512
 MOST_BYTES = 10_242
@@ -101,10 +101,3 @@ def answer_read(words):
     patterns = patterns_of(file, room)
     promise(file_of(patterns) == file, "an accepted file is what the writer would write")
     return b" ".join([b"read", b"%d" % (len(patterns) // 2)] + [b"%016x" % pattern for pattern in patterns])
-
-
-def read_room(word, largest):
-    room = read_count(word)
-    if room > largest:
-        raise Unclear
-    return room

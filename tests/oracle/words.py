@@ -1,4 +1,4 @@
-"""How a question's words are read: doubles, counts and bytes; and the two ways not to answer.
+"""How a question's words are read: doubles, counts, rooms and bytes; and the two ways not to answer.
 
 The expressions list the accepted digits, because Python's own int() also takes signs, prefixes,
 underscores and spaces around a number.
@@ -41,6 +41,14 @@ def read_count(word):
     if not COUNT.fullmatch(word) or int(word) > LARGEST_COUNT:
         raise Unclear
     return int(word)
+
+
+def read_room(word, largest):
+    """The count of what is lent; the protocol has a largest one for each word."""
+    room = read_count(word)
+    if room > largest:
+        raise Unclear
+    return room
 
 
 def read_bytes(word):

@@ -14,6 +14,13 @@ MOST_CORNERS = 64
 
 def answer_zone(words):
     """zone D D D ...: the point, then the corners"""
+    point, zone = read_zone(words)
+    place, edge = place_in(zone, point)
+    return b"zone border %d" % edge if place == "border" else b"zone " + place.encode("ascii")
+
+
+def read_zone(words):
+    """A point and a zone from the words of both, or the zone's refusal."""
     if len(words) < 2:
         raise Unclear
     patterns = read_doubles(words)
@@ -26,8 +33,7 @@ def answer_zone(words):
         raise Refused(1, 0)
     values = coordinates(patterns)  # the point at places 0 and 1, corners from 2
     point, *zone = zip(values[::2], values[1::2])
-    place, edge = place_in(zone, point)
-    return b"zone border %d" % edge if place == "border" else b"zone " + place.encode("ascii")
+    return point, zone
 
 
 def place_in(zone, point):

@@ -1,4 +1,4 @@
-"""Coordinates and points for the questions side, zone, plane, meet, write and read, as floats.
+"""Coordinates and points for the questions side, zone, why, plane, meet, write and read, as floats.
 
 Coordinates are accepted up to a reach: from 2^-reach to 2^reach, or zero.
 """

@@ -43,8 +43,8 @@ def questions(random):
     return with_damaged(random, UNCLEAR, asked_of(b"zone", random, zones(random)))
 
 
-def zones(random):
-    """Patterns of a point and its corners, without end."""
+def zones(random, more_shapes=()):
+    """Patterns of a point and its corners, without end; also of more shapes than those below."""
     for length in NOTABLE_LENGTHS:
         yield from of_length(random, length)
     yield from with_every_refusal(random)
@@ -53,7 +53,7 @@ def zones(random):
             for y in range(-1, 6):
                 yield patterns([(float(x), float(y))] + zone)
     while True:
-        yield from map(patterns, random.choice(SHAPES)(random))
+        yield from map(patterns, random.choice(SHAPES + more_shapes)(random))
         if random.randrange(32) == 0:
             yield from of_length(random, random.choice((random.randint(2, 9), random.randint(120, 150))))
 
@@ -135,8 +135,13 @@ def in_ring(random):
     ))
     for _ in range(2):
         yield scaled(random, [point] + zone) if random.randrange(4) == 0 else [point] + zone
-        first = random.randrange(len(zone))
-        zone = (zone[first:] + zone[:first])[:: random.choice((1, -1))]
+        zone = in_any_turn(random, zone)
+
+
+def in_any_turn(random, zone):
+    """The corners from any of them on, either way round."""
+    first = random.randrange(len(zone))
+    return (zone[first:] + zone[:first])[:: random.choice((1, -1))]
 
 
 def sharing_an_edge(random):

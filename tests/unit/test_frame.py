@@ -16,6 +16,7 @@ UNCLEAR = [
     b"Apart 3ff0000000000000", b"apart 3ff000000000000", b"apart 03ff0000000000000", b"apart 3ff000000000000g",
     b"a" * 100_000, b" " * 100_000,
     b"run", b"run ", b"run 01", b"run 4294967296", b"ceiling ", b"plain 0", b"side", b"zone", b"zone 3ff0000000000000",
+    b"why", b"why 0", b"why 0 3ff0000000000000", b"why" + 8 * b" 3ff0000000000000", b"why 101" + 8 * b" 3ff0000000000000",
     b"plane", b"plane" + 11 * b" 3ff0000000000000", b"meet", b"meet" + 7 * b" 3ff0000000000000",
     b"write", b"write 10301", b"read", b"read 0 ", b"read 1101", b"read 0 0", b"read 0 00 00",
 ]
@@ -37,6 +38,9 @@ ANSWERED = [
     (b"side" + 6 * b" 3ff0000000000000", b"side 0 1 0"),
     (b"zone" + 8 * b" 3ff0000000000000", b"zone border 0"),
     (b"zone 3ff0000000000000 3ff0000000000000", b"refused 4 0"),
+    (b"why 0" + 8 * b" 3ff0000000000000", b"why border 0 corner"),
+    (b"why 100" + 2 * b" 4000000000000000" + 6 * b" 3ff0000000000000", b"why outside 0"),
+    (b"why 0 3ff0000000000000 3ff0000000000000", b"refused 4 0"),
     (b"plane" + 12 * b" 3ff0000000000000", b"plane 0 12"),
     (b"plane" + 11 * b" 3ff0000000000000" + b" 7ff0000000000000", b"refused 3 11"),
     (b"meet" + 8 * b" 3ff0000000000000", b"meet touching"),

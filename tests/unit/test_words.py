@@ -1,8 +1,8 @@
-"""Which words are doubles, counts and bytes, and which are unclear."""
+"""Which words are doubles, counts, rooms and bytes, and which are unclear."""
 
 import unittest
 
-from words import Unclear, read_bytes, read_count, read_double
+from words import Unclear, read_bytes, read_count, read_double, read_room
 
 
 class Words(unittest.TestCase):
@@ -29,6 +29,13 @@ class Words(unittest.TestCase):
             {b"0": 0, b"7": 7, b"10": 10, b"4294967295": 2**32 - 1},
             [b"", b"00", b"01", b"-0", b"+1", b"1_0", b" 1", b"1\n", b"1.0", b"a", b"\xb2"]
             + [b"4294967296", b"10000000000", b"1" * 5000],
+        )
+
+    def test_rooms(self):
+        self.check(
+            lambda word: read_room(word, 100),
+            {b"0": 0, b"64": 64, b"100": 100},
+            [b"", b"00", b"064", b"-1", b"101", b"1000", b"4294967295", b"4294967296"],
         )
 
     def test_bytes(self):

@@ -5,6 +5,7 @@ use crate::meetings;
 use crate::numbers;
 use crate::part::first;
 use crate::planes;
+use crate::reasons;
 use crate::reply;
 use crate::reply::Reply;
 use crate::sides;
@@ -33,6 +34,9 @@ fn questioned(q: Question, taken: usize, bytes: &mut [u8], list: &mut [f64]) -> 
     if let Word::Write = word {
         return tracks::write(q.count, &list[..taken], bytes);
     }
+    if let Word::Why = word {
+        return reasons::why(q.count, &list[..taken], bytes);
+    }
     told(word, q.count, &mut list[..taken])
 }
 
@@ -54,6 +58,6 @@ fn looked(word: Word, list: &[f64]) -> Reply {
         Word::Zone => sides::zone(list),
         Word::Plane => planes::plane(list),
         Word::Meet => meetings::meet(list),
-        Word::Run | Word::Write | Word::Read => reply::unclear(),
+        Word::Run | Word::Why | Word::Write | Word::Read => reply::unclear(),
     }
 }

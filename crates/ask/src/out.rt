@@ -6,8 +6,10 @@ use crate::held::Out;
 use crate::part::first;
 use crate::part::first_doubles;
 use crate::reply::Reply;
+use crate::word::DOWN;
 use crate::word::LETTERS;
 use crate::word::NONE;
+use crate::word::UP;
 use crate::word::letter;
 
 pub const BROKEN: usize = usize::MAX;
@@ -38,13 +40,15 @@ pub fn put_reply(out: &mut Out, len: usize, r: Reply, bytes: &Bytes, list: &List
     let n = put_head(out, len, r);
     let k = put_doubles(out, n, first_doubles(list, r.doubles));
     let e = put_bytes(out, k, first(bytes, r.bytes));
-    put(out, e, b'\n')
+    let f = put_entries(out, e, first(bytes, r.entries));
+    put(out, f, b'\n')
 }
 
 fn put_head(out: &mut Out, len: usize, r: Reply) -> usize {
     let n = put_word(out, len, r.first);
-    let k = put_second(out, n, r.second);
-    put_numbers(out, k, r)
+    let k = put_next(out, n, r.second);
+    let m = put_numbers(out, k, r);
+    put_next(out, m, r.last)
 }
 
 fn put_word(out: &mut Out, len: usize, word: usize) -> usize {
@@ -61,7 +65,8 @@ fn put_word(out: &mut Out, len: usize, word: usize) -> usize {
     n
 }
 
-fn put_second(out: &mut Out, len: usize, word: usize) -> usize {
+// A word after a space, or nothing.
+fn put_next(out: &mut Out, len: usize, word: usize) -> usize {
     if word == NONE {
         return len;
     }
@@ -73,7 +78,7 @@ fn put_numbers(out: &mut Out, len: usize, r: Reply) -> usize {
     if r.count < 1 {
         return len;
     }
-    let n = put_decimal(out, len, r.a);
+    let n = put_signed(out, len, r.negative, r.a);
     if r.count < 2 {
         return n;
     }
@@ -94,12 +99,24 @@ fn put_digits(out: &mut Out, len: usize, digits: &[u8]) -> usize {
     n
 }
 
-// A number in decimal, after a space.
 fn put_decimal(out: &mut Out, len: usize, value: u64) -> usize {
+    put_signed(out, len, false, value)
+}
+
+// A number in decimal, after a space, with a minus sign where it is below 0.
+fn put_signed(out: &mut Out, len: usize, negative: bool, value: u64) -> usize {
     let mut digits = [0u8; 20];
     let k = io::decimal(value, &mut digits);
     let n = put(out, len, b' ');
-    put_digits(out, n, &digits[..k])
+    let m = put_minus(out, n, negative);
+    put_digits(out, m, &digits[..k])
+}
+
+fn put_minus(out: &mut Out, len: usize, negative: bool) -> usize {
+    if negative {
+        return put(out, len, b'-');
+    }
+    len
 }
 
 // A number in hexadecimal.
@@ -134,6 +151,25 @@ fn put_bytes(out: &mut Out, len: usize, bytes: &[u8]) -> usize {
     let mut i: usize = 0;
     while i < bytes.len() {
         n = put_byte(out, n, bytes[i]);
+        i += 1;
+    }
+    n
+}
+
+// An edge that counts, and its turn.
+fn put_entry(out: &mut Out, len: usize, entry: u8) -> usize {
+    let n = put_decimal(out, len, (entry / 2) as u64);
+    if entry % 2 == 0 {
+        return put_next(out, n, UP);
+    }
+    put_next(out, n, DOWN)
+}
+
+fn put_entries(out: &mut Out, len: usize, entries: &[u8]) -> usize {
+    let mut n = len;
+    let mut i: usize = 0;
+    while i < entries.len() {
+        n = put_entry(out, n, entries[i]);
         i += 1;
     }
     n

@@ -12,9 +12,14 @@ pub struct Reply {
     pub a: u64,
     pub b: u64,
     pub c: u64,
-    // How many of the list's first doubles follow, and of the first bytes that are held.
+    // Whether the first number is below 0, and `a` what it is without its sign.
+    pub negative: bool,
+    // The word behind the numbers.
+    pub last: usize,
+    // How many of the list's first doubles follow, and of the first bytes that are held: as a file's bytes, or as entries of edges that count.
     pub doubles: usize,
     pub bytes: usize,
+    pub entries: usize,
 }
 
 // Two words.
@@ -26,8 +31,11 @@ pub fn said(first: usize, second: usize) -> Reply {
         a: 0,
         b: 0,
         c: 0,
+        negative: false,
+        last: NONE,
         doubles: 0,
         bytes: 0,
+        entries: 0,
     }
 }
 

@@ -15,36 +15,46 @@ pub const PLANE: usize = 6;
 
 pub const MEET: usize = 7;
 
-pub const WRITE: usize = 8;
+pub const WHY: usize = 8;
 
-pub const READ: usize = 9;
+pub const WRITE: usize = 9;
 
-pub const REFUSED: usize = 10;
+pub const READ: usize = 10;
 
-pub const UNCLEAR: usize = 11;
+pub const REFUSED: usize = 11;
 
-pub const UNDECIDED: usize = 12;
+pub const UNCLEAR: usize = 12;
 
-pub const OUTSIDE: usize = 13;
+pub const UNDECIDED: usize = 13;
 
-pub const INSIDE: usize = 14;
+pub const OUTSIDE: usize = 14;
 
-pub const BORDER: usize = 15;
+pub const INSIDE: usize = 15;
 
-pub const TOUCHING: usize = 16;
+pub const BORDER: usize = 16;
 
-pub const CROSSING: usize = 17;
+pub const TOUCHING: usize = 17;
 
-pub const OVERLAPPING: usize = 18;
+pub const CROSSING: usize = 18;
 
-pub const MINUS: usize = 19;
+pub const OVERLAPPING: usize = 19;
 
-pub const ZERO: usize = 20;
+pub const CORNER: usize = 20;
 
-pub const PLUS: usize = 21;
+pub const BETWEEN: usize = 21;
+
+pub const UP: usize = 22;
+
+pub const DOWN: usize = 23;
+
+pub const MINUS: usize = 24;
+
+pub const ZERO: usize = 25;
+
+pub const PLUS: usize = 26;
 
 // No word.
-pub const NONE: usize = 22;
+pub const NONE: usize = 27;
 
 // The most letters of a word.
 pub const LETTERS: usize = 11;
@@ -58,6 +68,7 @@ const ROWS: [[u8; LETTERS]; NONE] = [
     *b"zone       ",
     *b"plane      ",
     *b"meet       ",
+    *b"why        ",
     *b"write      ",
     *b"read       ",
     *b"refused    ",
@@ -69,6 +80,10 @@ const ROWS: [[u8; LETTERS]; NONE] = [
     *b"touching   ",
     *b"crossing   ",
     *b"overlapping",
+    *b"corner     ",
+    *b"between    ",
+    *b"up         ",
+    *b"down       ",
     *b"-1         ",
     *b"0          ",
     *b"1          ",

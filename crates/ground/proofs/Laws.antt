@@ -9,6 +9,8 @@ pub mod Odd
 pub mod Rule
 -- tallies of lists of edges, and the place by them; on the border where an edge has the point
 pub mod Tally
+-- why a point has its place: the entries of edges that count, their numbers and their total
+pub mod Reason
 -- the list of corners begun at another corner, and backwards: the same place, and the same total or its negative
 pub mod Listing
 -- whole numbers alone: heights over a point with weights that balance, and shares of a way

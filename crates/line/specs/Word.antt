@@ -5,7 +5,7 @@ use Prim.Native.String.{String, [] as []ˢ, _∷_ as _∷ˢ_}
 use mathlib.Core.Bool.{cond}
 use lib.Dec.{eqb}
 use Rattle.line.specs.declared.answer.Word.{Word}
-use Rattle.line.specs.declared.answer.Word.the-variants.{Apart, Run, Ceiling, Plain, Side, Zone, Plane, Meet, Write, Read}
+use Rattle.line.specs.declared.answer.Word.the-variants.{Apart, Run, Ceiling, Plain, Side, Zone, Plane, Meet, Why, Write, Read}
 use Rattle.line.specs.declared.word.Form.{Form}
 use Rattle.line.specs.declared.word.Form.the-variants.{Doubles, Counted, File}
 use Rattle.line.specs.declared.word.Known.{Known}
@@ -30,9 +30,10 @@ wordOf letters =
     (isWord letters "zone" Zone
     (isWord letters "plane" Plane
     (isWord letters "meet" Meet
+    (isWord letters "why" Why
     (isWord letters "write" Write
     (isWord letters "read" Read
-    None)))))))))
+    None))))))))))
 
 -- what follows a word: doubles, a count and doubles, or a count and the bytes of a file
 abbrev pub formOf : Word → Form
@@ -44,5 +45,6 @@ formOf Side = Doubles
 formOf Zone = Doubles
 formOf Plane = Doubles
 formOf Meet = Doubles
+formOf Why = Counted
 formOf Write = Counted
 formOf Read = File

@@ -10,6 +10,7 @@ pub enum Word {
     Zone,
     Plane,
     Meet,
+    Why,
     Write,
     Read,
 }

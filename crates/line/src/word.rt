@@ -34,6 +34,8 @@ const PLANE: u64 = 0x706C_616E_65;
 
 const MEET: u64 = 0x6D65_6574;
 
+const WHY: u64 = 0x7768_79;
+
 const WRITE: u64 = 0x7772_6974_65;
 
 const READ: u64 = 0x7265_6164;
@@ -81,6 +83,9 @@ pub fn word_of(letters: u64) -> Known
     if letters == MEET {
         return Known::Word(Word::Meet);
     }
+    if letters == WHY {
+        return Known::Word(Word::Why);
+    }
     if letters == WRITE {
         return Known::Word(Word::Write);
     }
@@ -102,6 +107,7 @@ pub fn form_of(word: Word) -> Form
         Word::Zone => Form::Doubles,
         Word::Plane => Form::Doubles,
         Word::Meet => Form::Doubles,
+        Word::Why => Form::Counted,
         Word::Write => Form::Counted,
         Word::Read => Form::File,
     }

@@ -5,3 +5,7 @@ pub mod Decimal
 pub mod Text
 -- what is printed, at each end of the program
 pub mod Printed
+-- why each release has its place, in words
+pub mod Reasons
+-- the pieces that say so, one by one
+pub mod Explained

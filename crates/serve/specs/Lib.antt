@@ -1,4 +1,6 @@
--- What a reader must believe of the desk: the text of what is told, and its whole output. Parts is what inner functions promise.
+-- What a reader must believe of the desk: the text of what is told, and its whole output; the reasons of all places. Parts is what inner functions
+-- promise.
 pub mod Text
 pub mod Printed
+pub mod Reasons
 pub mod Parts

@@ -124,7 +124,7 @@ fn put_releases(out: &mut Text, codes: &[u8]) -> usize
     n
 }
 
-fn put_header(out: &mut Text, many: usize) -> usize
+pub fn put_header(out: &mut Text, many: usize) -> usize
     requires { ⌜ textRoom ≤ length (now out) ⌝ }
     ensures { λ r. ⌜ Puts 30 (now (out .entry)) 0 (headerText many) r (now (out .exit)) ⌝ }
 {
@@ -153,7 +153,7 @@ fn put_place(out: &mut Text, len: usize, place: u8) -> usize
     }
 }
 
-fn put_decimal(out: &mut Text, len: usize, value: u64) -> usize
+pub fn put_decimal(out: &mut Text, len: usize, value: u64) -> usize
     requires { ⌜ (len + 20 ≤ textRoom) × (textRoom ≤ length (now out)) ⌝ }
     ensures { λ r. ⌜ Puts 20 (now (out .entry)) len (decimal value) r (now (out .exit)) ⌝ }
 {
@@ -163,7 +163,7 @@ fn put_decimal(out: &mut Text, len: usize, value: u64) -> usize
 }
 
 // Puts text after the first `len` bytes of `out`, and answers how many bytes stand then.
-fn put(out: &mut Text, len: usize, text: &[u8]) -> usize
+pub fn put(out: &mut Text, len: usize, text: &[u8]) -> usize
     requires { ⌜ (len + length (now text) ≤ textRoom) × (textRoom ≤ length (now out)) ⌝ }
     ensures { λ r. ⌜ Puts (length (now (text .entry))) (now (out .entry)) len (now (text .entry)) r (now (out .exit)) ⌝ }
 {

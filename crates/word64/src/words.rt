@@ -1,5 +1,5 @@
-// The last word of a product, by halves of 32 binary digits, and the difference of two words as a signed number.
-ghost use Rattle.word64.specs.Word.{LastOfProductSays, SignedDifferenceSays};
+// The last word of a product, by halves of 32 binary digits; the difference of two words as a signed number; a signed number without its sign.
+ghost use Rattle.word64.specs.Word.{LastOfProductSays, SignedDifferenceSays, MagnitudeSays};
 
 // A half of a word is below this.
 const HALF: u64 = 0x1_0000_0000;
@@ -26,4 +26,15 @@ pub fn signed_difference(a: u64, b: u64) -> i64
     }
     // It is 2^64 - word that is to be negated; but that can be 2^63, which no i64 is: so one less, and then one more taken away.
     -((u64::MAX - word) as i64) - 1
+}
+
+// z without its sign.
+pub fn magnitude(z: i64) -> u64
+    ensures { λ r. ⌜ MagnitudeSays z r ⌝ }
+{
+    if 0 <= z {
+        return z as u64;
+    }
+    // By way of one more, since the least i64 has no opposite.
+    (-(z + 1)) as u64 + 1
 }

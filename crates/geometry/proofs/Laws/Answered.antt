@@ -25,7 +25,7 @@ abbrev pub AllAccepted : List Float → Type 0
 AllAccepted [] = Unit
 AllAccepted (x ∷ xs) = (acceptedOf x ≡ true) × AllAccepted xs
 
-accepted-pass : (xs : List Float) → AllAccepted xs → AllPass acceptedOf nan xs
+pub accepted-pass : (xs : List Float) → AllAccepted xs → AllPass acceptedOf nan xs
 accepted-pass [] a i h = let z : ⊥ = omega arith in absurd z
 accepted-pass (x ∷ xs) a zero h = a .0
 accepted-pass (x ∷ xs) a (suc i) h = accepted-pass xs (a .1) i (omega arith)

@@ -115,7 +115,7 @@ module _ (xs : List Float) (p : Point) where
   told-as m j n k number place w =
       subst (λ (i : ℕ). ZoneRefusedAs xs p i k) (sym number) (subst (λ (i : ℕ). ZoneRefusedAs xs p m i) (sym place) w)
 
-  refused-found : (n k : ℕ) → zoneOf xs p ≡ refuses n k → ZoneRefusedAs xs p n k
+  pub refused-found : (n k : ℕ) → zoneOf xs p ≡ refuses n k → ZoneRefusedAs xs p n k
   unfolding zoneOf
   refused-found n k e = elim (require-refused (eqb (length xs % 2) 0) oddLength 0 _ e) [
     | inl (fails, number, place) ↦ told-as oddLength 0 n k number place (odd (uneven (eqb-false (length xs % 2) 0 fails)))
@@ -140,7 +140,7 @@ module _ (xs : List Float) (p : Point) where
   even-not : length xs % 2 ≡ 0 → length xs % 2 ≡ 1 → ⊥
   even-not h e = omega arith
 
-  found-refused : (n k : ℕ) → ZoneRefusedAs xs p n k → zoneOf xs p ≡ refuses n k
+  pub found-refused : (n k : ℕ) → ZoneRefusedAs xs p n k → zoneOf xs p ≡ refuses n k
   found-refused n k (odd h) = sym (zone-odd xs p h)
   found-refused n k (few h l) = sym (zone-small xs p (even-not h) l)
   found-refused n k (many h l) = sym (zone-large xs p (even-not h) (some l) l)

@@ -1,15 +1,17 @@
--- The rules at work on small numbers: checked examples, cited by no law. In order: a square, and the square listed twice; a figure of eight; a
--- star; two zones that share a chain of two edges, and their joint outline, with a point of each; four points with heights.
+-- The rules at work on small numbers: checked examples, cited by no law. In order: a square, the square listed twice, and why a point has its place in them;
+-- a figure of eight; a star; two zones that share a chain of two edges, and their joint outline, with a point of each; four points with heights.
 -- Assumes nothing.
 use mathlib.Core.Path.{_≡_, refl}
+use mathlib.Core.Bool.{true, false}
 use mathlib.Core.List.{List, [], _∷_, _++_}
 use mathlib.Core.Logic.{inl}
 use lib.IntN.{ℤ, pos, negsuc}
 use Rattle.whole.specs.Order.{_<ᶻ_}
-use Rattle.ground.specs.Compare.{atMost, below}
+use Rattle.ground.specs.Compare.{atMost, below, equal}
 use Rattle.ground.specs.Plane.{Spot}
 use Rattle.ground.specs.Edge.{edgesFrom, edgesOf, onEdge, isUp, isDown}
 use Rattle.ground.specs.Zone.{countOf, tallyOf, totalOf, Lies, outside, border, inside, offBorder, walk, placeOf}
+use Rattle.ground.specs.Reason.{up, down, Entry, entry, listFrom, isCorner, Reason, onBorder, isInside, isOutside, reasonOf}
 use Rattle.ground.specs.Parity.{byParity, placeByParity}
 use Rattle.ground.specs.Listing.{totalIn, Joined}
 use Rattle.ground.specs.Convex.{Convex, Crossed}
@@ -58,6 +60,21 @@ square-convex = inl (((left, (left, tt)), ((left, tt), (tt, tt))), (((left, tt),
   where
     left : pos 0 <ᶻ pos 16
     left = record { lt = tt }
+
+-- ---- why a point has its place in them
+abbrev whyIn : List Spot → ℤ → ℤ → Reason (List Entry)
+whyIn cs x y = reasonOf (edgesOf cs) (spot x y)
+
+square-reasons : (whyIn square (pos 2) (pos 2) ≡ isInside (pos 1) (entry 1 up ∷ []))
+    × (whyIn square (pos 4) (pos 1) ≡ onBorder 1 false) × (whyIn square (pos 4) (pos 4) ≡ onBorder 1 true)
+    × (whyIn square (pos 0) (pos 0) ≡ onBorder 0 true)
+    × (whyIn square (negsuc 0) (pos 2) ≡ isOutside (pos 0) (entry 1 up ∷ entry 3 down ∷ [])) × (whyIn square (pos 5) (pos 5) ≡ isOutside (pos 0) [])
+unfolding reasonOf placeOf walk offBorder tallyOf totalOf countOf isUp isDown onEdge isCorner listFrom edgesOf edgesFrom atMost below equal
+square-reasons = (refl, refl, refl, refl, refl, refl)
+
+twice-reason : whyIn (square ++ square) (pos 2) (pos 2) ≡ isInside (pos 2) (entry 1 up ∷ entry 5 up ∷ [])
+unfolding reasonOf placeOf walk offBorder tallyOf totalOf countOf isUp isDown onEdge isCorner listFrom edgesOf edgesFrom atMost below equal
+twice-reason = refl
 
 -- ---- a figure of eight, whose line crosses itself at (2, 2): the loop on the right is gone round clockwise, the one on the left the other way
 abbrev eight : List Spot

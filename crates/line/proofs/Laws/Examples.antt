@@ -7,7 +7,7 @@ use Prim.Native.String.{String, [] as []ˢ, _∷_ as _∷ˢ_}
 use Rattle.line.specs.Numeral.{digitOf, onward, patternOf, countOf}
 use Rattle.line.specs.Word.{wordOf}
 use Rattle.line.specs.Line.{Meaning, copied, unclear, ofDoubles, ofFile, firstOf, laterOf, doublesOf, bytesOf, nameOf, meaningOf}
-use Rattle.line.specs.declared.answer.Word.the-variants.{Apart, Run, Plain, Side, Plane, Meet}
+use Rattle.line.specs.declared.answer.Word.the-variants.{Apart, Run, Plain, Side, Plane, Meet, Why}
 
 abbrev codes : String → List ℕ
 codes []ˢ = []
@@ -28,8 +28,9 @@ words = (refl, refl, refl, refl, refl, refl, refl, refl)
 
 counts : asks "run 0" (ofDoubles Run 0 []) × asks "run" unclear × asks "run 01" unclear
     × asks "run 4294967295" (ofDoubles Run 0xFFFF_FFFF []) × asks "run 4294967296" unclear × asks "run -1" unclear
+    × asks "why 64" (ofDoubles Why 64 []) × asks "why" unclear
 unfolding meaningOf firstOf laterOf nameOf wordOf doublesOf countOf onward digitOf
-counts = (refl, refl, refl, refl, refl, refl)
+counts = (refl, refl, refl, refl, refl, refl, refl, refl)
 
 doubles : asks "side 3ff0000000000000 7FF0000000000000" (ofDoubles Side 0 (0x3ff0_0000_0000_0000 ∷ 0x7ff0_0000_0000_0000 ∷ []))
     × asks "side 3ff000000000000" unclear × asks "side 03ff0000000000000" unclear × asks "side 3ff0000000000000  3ff0000000000000" unclear

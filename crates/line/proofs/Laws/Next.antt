@@ -148,9 +148,9 @@ module _ (letters : ℕ) where
   is-not name = letters ≡ lettersOf 0 name → ⊥
 
   pub word-none : is-not "apart" → is-not "run" → is-not "ceiling" → is-not "plain" → is-not "side" → is-not "zone" → is-not "plane"
-      → is-not "meet" → is-not "write" → is-not "read" → Other ≡ wordOf letters
+      → is-not "meet" → is-not "why" → is-not "write" → is-not "read" → Other ≡ wordOf letters
   unfolding wordOf
-  word-none n1 n2 n3 n4 n5 n6 n7 n8 n9 n10 =
+  word-none n1 n2 n3 n4 n5 n6 n7 n8 n9 n10 n11 =
       rw (
         ne-eqb letters _ n1,
         ne-eqb letters _ n2,
@@ -162,6 +162,7 @@ module _ (letters : ℕ) where
         ne-eqb letters _ n8,
         ne-eqb letters _ n9,
         ne-eqb letters _ n10,
+        ne-eqb letters _ n11,
       )
 
   pub named-other : wordOf letters ≡ Other → Unclear ≡ namedOf letters

@@ -48,13 +48,18 @@ unfolding wordOf
 returns-10 c = sym (ap wordOf (c .if10 .taken))
 
 returns-11 : tie.Need-returns-11
-returns-11 c =
-    let six = c .before .before .before .before in
-    let two = six .before .before .before .before in
-    let s = two .before .before .args .letters in
-    word-none s (two .before .if1 .left) (two .if2 .left) (six .before .before .before .if3 .left) (six .before .before .if4 .left)
-    (six .before .if5 .left) (six .if6 .left) (c .before .before .before .if7 .left) (c .before .before .if8 .left) (c .before .if9 .left)
-    (c .if10 .left)
+unfolding wordOf
+returns-11 c = sym (ap wordOf (c .if11 .taken))
+
+returns-12 : tie.Need-returns-12
+returns-12 c =
+    let seven = c .before .before .before .before in
+    let three = seven .before .before .before .before in
+    let one = three .before .before in
+    let s = one .before .args .letters in
+    word-none s (one .if1 .left) (three .before .if2 .left) (three .if3 .left) (seven .before .before .before .if4 .left) (seven .before .before .if5 .left)
+    (seven .before .if6 .left) (seven .if7 .left) (c .before .before .before .if8 .left) (c .before .before .if9 .left) (c .before .if10 .left)
+    (c .if11 .left)
 
 pub word-of-spec : {M : Type 1} → statement M
 word-of-spec =
@@ -70,4 +75,5 @@ word-of-spec =
     returns-8
     returns-9
     returns-10
-    returns-11)
+    returns-11
+    returns-12)
