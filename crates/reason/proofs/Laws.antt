@@ -7,5 +7,7 @@ pub mod Listing
 pub mod Entries
 -- what keeps the promise of `why`
 pub mod Why
+-- what an answer and a refusal tell, by the definition
+pub mod Told
 -- the demands, of whatever keeps the promise of `why`: what callers cite
 pub mod Calls
