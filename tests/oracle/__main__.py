@@ -14,8 +14,9 @@ What the protocol leaves to its words, as read here:
   of spaces alone is not empty;
 - the first word is in lower case, as written; tabs, NULs and carriage returns part no words;
 - bytes, like doubles, are read in either case and written in lower case;
-- a zone, as a why after its room, has the two words of its point at least, and its list of corners may
-  be empty like others;
+- a zone, as a why after its room and a plan after its counts, has the two words of its point at least,
+  and its list of corners may be empty like others;
+- a plan's refusal has three numbers, also where the zone's is 0 because no zone is refused;
 - a total is written as a sign is, with a minus or nothing before its digits;
 - the answer to read has the two doubles of each point, and no more of the room.
 """
@@ -25,6 +26,7 @@ import sys
 import doubles
 import meetings
 import planes
+import plans
 import reasons
 import sides
 import sums
@@ -41,6 +43,7 @@ ANSWERS = {
     b"side": sides.answer_side,
     b"zone": zones.answer_zone,
     b"why": reasons.answer_why,
+    b"plan": plans.answer_plan,
     b"plane": planes.answer_plane,
     b"meet": meetings.answer_meet,
     b"write": tracks.answer_write,
@@ -60,7 +63,7 @@ def answer(line):
     except Unclear:
         return b"unclear"
     except Refused as refusal:
-        return b"refused %d %d" % (refusal.number, refusal.place)
+        return b" ".join([b"refused"] + [b"%d" % number for number in refusal.args])
     except Broken as broken:
         return b"broken promise: " + str(broken).encode()
 

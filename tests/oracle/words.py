@@ -17,10 +17,10 @@ class Unclear(Exception):
 
 
 class Refused(Exception):
-    """The question is of a known form, and 01's table refuses it."""
+    """The question is of a known form, and 01's table refuses it; a plan has a zone's number beside the place."""
 
-    def __init__(self, number, place):
-        super().__init__(number, place)
+    def __init__(self, number, place, *zone):
+        super().__init__(number, place, *zone)
         self.number = number
         self.place = place
 
@@ -44,7 +44,7 @@ def read_count(word):
 
 
 def read_room(word, largest):
-    """The count of what is lent; the protocol has a largest one for each word."""
+    """The count of what is lent or held; the protocol has a largest one for each word."""
     room = read_count(word)
     if room > largest:
         raise Unclear

@@ -23,7 +23,11 @@ def read_zone(words):
     """A point and a zone from the words of both, or the zone's refusal."""
     if len(words) < 2:
         raise Unclear
-    patterns = read_doubles(words)
+    return accepted_zone(read_doubles(words))
+
+
+def accepted_zone(patterns):
+    """The values of a point and of a zone's corners, from the patterns of both, or the zone's refusal."""
     corners, odd = divmod(len(patterns) - 2, 2)
     if odd:
         raise Refused(5, 0)

@@ -5,7 +5,7 @@ never runs out: first the ones that are always worth asking, then random ones. A
 ask for one word each.
 """
 
-from questions import apart, ceiling, frame, meet, plain, plane, read, run, side, why, write, zone
+from questions import apart, ceiling, frame, meet, plain, plan, plane, read, run, side, why, write, zone
 
 KINDS = {
     "apart": apart.questions,
@@ -16,6 +16,7 @@ KINDS = {
     "side": side.questions,
     "zone": zone.questions,
     "why": why.questions,
+    "plan": plan.questions,
     "plane": plane.questions,
     "meet": meet.questions,
     "write": write.questions,

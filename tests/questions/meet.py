@@ -5,7 +5,8 @@ from itertools import chain, combinations_with_replacement, permutations
 from questions.doubles import REACH, any_number, any_significand, float_of, moved, pattern_of
 from questions.lines import misspelled, with_damaged
 from questions.points import (
-    ENDS, REFUSED, any_coordinate, any_point, asked_of, chopped, grid_point, patterns, replaced, scaled, with_bits,
+    ENDS, REFUSED, any_coordinate, any_point, asked_of, chopped, either_zero, grid_point, patterns, replaced, scaled,
+    with_bits,
 )
 
 PLACES = 8
@@ -149,8 +150,7 @@ def orders(points):
 
 def any_order(random, points):
     """The patterns of two pieces in any order, and with zeros of either sign."""
-    signed = [tuple(coordinate or random.choice((0.0, -0.0)) for coordinate in point) for point in points]
-    return patterns(random.choice(orders(signed)))
+    return patterns(random.choice(orders(either_zero(random, points))))
 
 
 def two_pieces(points):

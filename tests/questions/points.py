@@ -1,4 +1,4 @@
-"""Coordinates and points for the questions side, zone, why, plane, meet, write and read, as floats.
+"""Coordinates and points for the questions side, zone, why, plan, plane, meet, write and read, as floats.
 
 Coordinates are accepted up to a reach: from 2^-reach to 2^reach, or zero.
 """
@@ -70,6 +70,11 @@ def any_power(random, magnitudes, reach):
     if least > greatest:
         return 0
     return random.choice((0, least, greatest, random.randint(least, greatest)))
+
+
+def either_zero(random, points):
+    """The points with zeros of either sign."""
+    return [tuple(coordinate or random.choice((0.0, -0.0)) for coordinate in point) for point in points]
 
 
 def patterns(points):

@@ -3,7 +3,7 @@
 from questions import zone
 from questions.doubles import any_number, float_of, moved, spelled_list
 from questions.lines import INFINITY, ONE, with_damaged
-from questions.points import REFUSED, grid_point, patterns, replaced, scaled, with_refused
+from questions.points import REFUSED, either_zero, grid_point, patterns, replaced, scaled, with_refused
 
 LARGEST_ROOM = 100
 MOST_CORNERS = 64
@@ -138,8 +138,8 @@ def fan(random):
 def at_corner(random):
     """A corner as the point, with zeros of either sign, and a point level with one corner and upright over another."""
     _, *corners = next(random.choice(zone.SHAPES)(random))
-    for x, y in (random.choice(corners), (random.choice(corners)[0], random.choice(corners)[1])):
-        yield [(x or random.choice((0.0, -0.0)), y or random.choice((0.0, -0.0)))] + corners
+    for point in (random.choice(corners), (random.choice(corners)[0], random.choice(corners)[1])):
+        yield either_zero(random, [point]) + corners
 
 
 SHAPES = (zigzag, zigzag, wound, fan, fan, at_corner, at_corner)

@@ -99,9 +99,8 @@ def at_ends(random):
     yield [(random.choice(ENDS), random.choice(ENDS)) for _ in range(1 + random.randint(3, 8))]
 
 
-def ring(random):
-    """The corners of a zone that goes round once, not always convex, on both sides of 0."""
-    count = corner_count(random)
+def ring(random, count):
+    """So many corners of a zone that goes round once, not always convex, on both sides of 0."""
     corners = []
     for index in range(count):
         # a rational point of the circle, and how far out it stands
@@ -124,7 +123,7 @@ def on_edge(random, zone):
 
 def in_ring(random):
     """A ring and a point on or near its border, level with a corner, or anywhere; in any turn."""
-    zone = ring(random)
+    zone = ring(random, corner_count(random))
     if random.randrange(2) == 0:
         zone = chopped(random, zone)
     point = random.choice((
@@ -165,7 +164,7 @@ def repeating(random):
 
 def crossing(random):
     """A ring whose corners are joined by leaps, as a star's are, and a point anywhere or on its border."""
-    zone = ring(random)
+    zone = ring(random, corner_count(random))
     leap = random.randint(2, 5)
     zone = [zone[index * leap % len(zone)] for index in range(len(zone))]
     if random.randrange(2) == 0:

@@ -1,8 +1,8 @@
-"""Which words are doubles, counts, rooms and bytes, and which are unclear."""
+"""Which words are doubles, counts, rooms and bytes, and which are unclear; and the numbers of a refusal."""
 
 import unittest
 
-from words import Unclear, read_bytes, read_count, read_double, read_room
+from words import Refused, Unclear, read_bytes, read_count, read_double, read_room
 
 
 class Words(unittest.TestCase):
@@ -44,3 +44,8 @@ class Words(unittest.TestCase):
             {b"00": b"\x00", b"8000": b"\x80\x00", b"fFFf01": b"\xff\xff\x01"},
             [b"", b"0", b"000", b"0g", b"0x", b"00 00", b"00\n", b"\xb2\xb2"],
         )
+
+    def test_refusals(self):
+        for numbers in ((3, 7), (3, 7, 0), (1, 0, 15)):
+            refusal = Refused(*numbers)
+            self.assertEqual((refusal.number, refusal.place, refusal.args), (*numbers[:2], numbers))

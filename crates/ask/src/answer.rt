@@ -5,6 +5,7 @@ use crate::meetings;
 use crate::numbers;
 use crate::part::first;
 use crate::planes;
+use crate::plans;
 use crate::reasons;
 use crate::reply;
 use crate::reply::Reply;
@@ -40,10 +41,13 @@ fn questioned(q: Question, taken: usize, bytes: &mut [u8], list: &mut [f64]) -> 
     told(word, q.count, &mut list[..taken])
 }
 
-// A question that a run may alter the doubles of.
+// A question with a count, and those that have none. A run alters the doubles.
 fn told(word: Word, count: u32, list: &mut [f64]) -> Reply {
     if let Word::Run = word {
         return sums::run(list, count);
+    }
+    if let Word::Plan = word {
+        return plans::plan(count, list);
     }
     looked(word, list)
 }
@@ -58,6 +62,6 @@ fn looked(word: Word, list: &[f64]) -> Reply {
         Word::Zone => sides::zone(list),
         Word::Plane => planes::plane(list),
         Word::Meet => meetings::meet(list),
-        Word::Run | Word::Why | Word::Write | Word::Read => reply::unclear(),
+        Word::Run | Word::Why | Word::Plan | Word::Write | Word::Read => reply::unclear(),
     }
 }

@@ -5,9 +5,9 @@ pub const HELD: usize = 10300;
 
 pub type Bytes = [u8; HELD];
 
-// Doubles of a question that are held, and the most that are lent to the reader. (Two more than the longest list that is accepted are
-// enough.)
-pub const LIST: usize = 1100;
+// Numbers of a question that are held: its doubles, and before them a plan's counts. (Two more than the longest question has, which is a plan's, so
+// that a list which is full is too long for every word.)
+pub const LIST: usize = 2236;
 
 pub type List = [f64; LIST];
 

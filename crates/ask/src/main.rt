@@ -6,6 +6,7 @@ mod numbers;
 mod out;
 mod part;
 mod planes;
+mod plans;
 mod reasons;
 mod reply;
 mod sides;

@@ -18,8 +18,11 @@ pub fn apart(list: &[f64]) -> Reply {
 }
 
 fn parted(p: Parts) -> Reply {
-    let mut reply = reply::said_two(APART, NONE, p.negative as u64, p.significand);
-    reply.count = 3;
-    reply.c = p.exponent as u64;
-    reply
+    reply::said_three(
+        APART,
+        NONE,
+        p.negative as u64,
+        p.significand,
+        p.exponent as u64,
+    )
 }

@@ -55,6 +55,14 @@ pub fn said_two(first: usize, second: usize, a: u64, b: u64) -> Reply {
     reply
 }
 
+// Two words and three numbers.
+pub fn said_three(first: usize, second: usize, a: u64, b: u64, c: u64) -> Reply {
+    let mut reply = said_two(first, second, a, b);
+    reply.count = 3;
+    reply.c = c;
+    reply
+}
+
 // The line end alone.
 pub fn blank() -> Reply {
     said(NONE, NONE)

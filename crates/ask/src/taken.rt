@@ -11,7 +11,7 @@ const FILE: usize = BYTES + 1;
 pub fn with(found: Found, taken: usize, bytes: &mut Bytes, list: &mut List) -> usize {
     match found {
         Found::Nothing => taken,
-        Found::Double(pattern) => with_double(taken, double::from_pattern(pattern), list),
+        Found::Number(pattern) => with_double(taken, double::from_pattern(pattern), list),
         Found::Byte(b) => with_byte(taken, b, bytes),
     }
 }

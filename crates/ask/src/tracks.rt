@@ -23,9 +23,15 @@ fn written(k: usize) -> Reply {
     reply
 }
 
+// The most doubles that are lent to the reader. (1,024 are enough.)
+const ROOM: usize = 1100;
+
 // read ROOM BYTES: how many points, and their coordinates, with ROOM doubles lent.
 pub fn read(room: u32, file: &[u8], list: &mut [f64]) -> Reply {
     let lent = room as usize;
+    if ROOM < lent {
+        return reply::unclear();
+    }
     if list.len() < lent {
         return reply::unclear();
     }

@@ -17,44 +17,52 @@ pub const MEET: usize = 7;
 
 pub const WHY: usize = 8;
 
-pub const WRITE: usize = 9;
+pub const PLAN: usize = 9;
 
-pub const READ: usize = 10;
+pub const WRITE: usize = 10;
 
-pub const REFUSED: usize = 11;
+pub const READ: usize = 11;
 
-pub const UNCLEAR: usize = 12;
+pub const REFUSED: usize = 12;
 
-pub const UNDECIDED: usize = 13;
+pub const UNCLEAR: usize = 13;
 
-pub const OUTSIDE: usize = 14;
+pub const UNDECIDED: usize = 14;
 
-pub const INSIDE: usize = 15;
+pub const OUTSIDE: usize = 15;
 
-pub const BORDER: usize = 16;
+pub const INSIDE: usize = 16;
 
-pub const TOUCHING: usize = 17;
+pub const BORDER: usize = 17;
 
-pub const CROSSING: usize = 18;
+pub const TOUCHING: usize = 18;
 
-pub const OVERLAPPING: usize = 19;
+pub const CROSSING: usize = 19;
 
-pub const CORNER: usize = 20;
+pub const OVERLAPPING: usize = 20;
 
-pub const BETWEEN: usize = 21;
+pub const CORNER: usize = 21;
 
-pub const UP: usize = 22;
+pub const BETWEEN: usize = 22;
 
-pub const DOWN: usize = 23;
+pub const NO_ZONE: usize = 23;
 
-pub const MINUS: usize = 24;
+pub const ALONE: usize = 24;
 
-pub const ZERO: usize = 25;
+pub const SHARED: usize = 25;
 
-pub const PLUS: usize = 26;
+pub const UP: usize = 26;
+
+pub const DOWN: usize = 27;
+
+pub const MINUS: usize = 28;
+
+pub const ZERO: usize = 29;
+
+pub const PLUS: usize = 30;
 
 // No word.
-pub const NONE: usize = 27;
+pub const NONE: usize = 31;
 
 // The most letters of a word.
 pub const LETTERS: usize = 11;
@@ -69,6 +77,7 @@ const ROWS: [[u8; LETTERS]; NONE] = [
     *b"plane      ",
     *b"meet       ",
     *b"why        ",
+    *b"plan       ",
     *b"write      ",
     *b"read       ",
     *b"refused    ",
@@ -82,6 +91,9 @@ const ROWS: [[u8; LETTERS]; NONE] = [
     *b"overlapping",
     *b"corner     ",
     *b"between    ",
+    *b"none       ",
+    *b"alone      ",
+    *b"shared     ",
     *b"up         ",
     *b"down       ",
     *b"-1         ",

@@ -13,3 +13,5 @@ pub mod Parity
 pub mod Planes
 -- the meeting of two pieces: equal by value, exchanged, turned round
 pub mod Meetings
+-- a plan of zones, for the reel: another order, shared edges, a release that is alone
+pub mod Crease

@@ -1,5 +1,5 @@
 -- What a whole line asks: words parted by single spaces, of which the first says the form of the others.
-use Prim.Native.Nat.{ℕ, _+_, _*_, _^_}
+use Prim.Native.Nat.{ℕ, zero, suc, _+_, _*_, _^_}
 use mathlib.Core.Bool.{cond}
 use mathlib.Core.List.{List, [], _∷_}
 use lib.Dec.{eqb, ltb}
@@ -7,12 +7,12 @@ use Rattle.line.specs.Numeral.{Numeral, number, none, withDigit, digitOf
 use Rattle.line.specs.Word.{wordOf, formOf}
 use Rattle.line.specs.declared.answer.Word.{Word}
 use Rattle.line.specs.declared.word.Form.{Form}
-use Rattle.line.specs.declared.word.Form.the-variants.{Doubles, Counted, File}
+use Rattle.line.specs.declared.word.Form.the-variants.{Doubles, Counted, Counts, File}
 use Rattle.line.specs.declared.word.Known.{Known}
 use Rattle.line.specs.declared.word.Known.the-variants.{Word as Is, None}
 
--- what a line asks: nothing, since it is copied; nothing that is known; a word with its count (0 where there is none) and the patterns of its
--- doubles; or to read a file's bytes with room for so many doubles
+-- what a line asks: nothing, since it is copied; nothing that is known; a word with its first count (0 where there is none) and its numbers,
+-- which are the patterns of its doubles, and before them the counts of a plan; or to read a file's bytes with room for so many doubles
 pub data Meaning : Type 0 where
   copied : Meaning
   unclear : Meaning
@@ -40,6 +40,13 @@ unfolding patternOf
 doublesOf [] k = k []
 doublesOf (word ∷ words) k = withNumber (patternOf word) (λ v. doublesOf words (λ vs. k (v ∷ vs)))
 
+-- goes on with so many counts and then with doubles, where the words are such
+unfoldable pub numbersOf : ℕ → List (List ℕ) → (List ℕ → Meaning) → Meaning
+unfolding countOf doublesOf
+numbersOf zero words k = doublesOf words k
+numbersOf (suc n) [] k = unclear
+numbersOf (suc n) (word ∷ words) k = withNumber (countOf word) (λ c. numbersOf n words (λ vs. k (c ∷ vs)))
+
 -- goes on with the bytes of a word: two hexadecimal digits for each
 unfoldable pub bytesOf : List ℕ → (List ℕ → Meaning) → Meaning
 bytesOf [] k = k []
@@ -62,9 +69,10 @@ afterCount [] k = unclear
 afterCount (word ∷ words) k = withNumber (countOf word) (λ n. k n words)
 
 abbrev pub inForm : Form → Word → List (List ℕ) → Meaning
-unfolding doublesOf
+unfolding doublesOf numbersOf
 inForm Doubles word words = doublesOf words (ofDoubles word 0)
 inForm Counted word words = afterCount words (λ n rest. doublesOf rest (ofDoubles word n))
+inForm Counts word words = afterCount words (λ n rest. numbersOf n rest (ofDoubles word n))
 inForm File word words = afterCount words (λ n rest. fileIn rest n)
 
 abbrev pub ofWord : Known → List (List ℕ) → Meaning
@@ -78,7 +86,7 @@ nameOf v (b ∷ bs) = cond (eqb b 0) none (cond (ltb v (2 ^ 56)) (nameOf (256 * 
 
 -- what a line asks, by its bytes, the line end left out: an empty line and one that begins with `#`, the code 35, are copied
 unfoldable pub meaningOf : List ℕ → Meaning
-unfolding wordOf nameOf firstOf laterOf doublesOf
+unfolding wordOf nameOf firstOf laterOf doublesOf numbersOf
 meaningOf [] = copied
 meaningOf (b ∷ bs) =
     cond (eqb b 35) copied

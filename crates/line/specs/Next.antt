@@ -1,5 +1,5 @@
 -- What one byte more does to a line that is being read, and its end: the promises of `next` and `ended`.
-use Prim.Native.Nat.{ℕ, _+_, _*_, _^_, _%_}
+use Prim.Native.Nat.{ℕ, zero, suc, _+_, _*_, _^_, _%_}
 use mathlib.Core.Path.{_≡_}
 use mathlib.Core.Bool.{Bool, true, false, cond, _&&_, not}
 use lib.Dec.{eqb, ltb, leb}
@@ -7,7 +7,7 @@ use Rattle.line.specs.Numeral.{withDigit, digitOf}
 use Rattle.line.specs.Word.{formOf, wordOf}
 use Rattle.line.specs.declared.answer.Word.{Word}
 use Rattle.line.specs.declared.word.Form.{Form}
-use Rattle.line.specs.declared.word.Form.the-variants.{Doubles, Counted, File as Bytes}
+use Rattle.line.specs.declared.word.Form.the-variants.{Doubles, Counted, Counts, File as Bytes}
 use Rattle.line.specs.declared.word.Known.{Known}
 use Rattle.line.specs.declared.word.Known.the-variants.{Word as Is, None}
 use Rattle.line.specs.declared.answer.Line.{Line}
@@ -15,7 +15,7 @@ use Rattle.line.specs.declared.answer.Line.the-variants.{Empty, Comment,
 use Rattle.line.specs.declared.answer.Counting.{Counting as Count}
 use Rattle.line.specs.declared.answer.Asking.{Asking as Double}
 use Rattle.line.specs.declared.answer.Reading.{Reading as File}
-use Rattle.line.specs.declared.answer.Found.the-variants.{Nothing, Double as IsDouble, Byte}
+use Rattle.line.specs.declared.answer.Found.the-variants.{Nothing, Number as IsNumber, Byte}
 use Rattle.line.specs.declared.answer.Step.{Step}
 use Rattle.line.specs.declared.answer.Asked.{Asked}
 use Rattle.line.specs.declared.answer.Asked.the-variants.{Nothing as Copied, Unclear as NotClear, OfDoubles, OfFile}
@@ -43,7 +43,9 @@ isZero c = c .some && eqb (c .count) 0
 abbrev pub countWith : Count → ℕ → Line
 countWith c d =
     cond (isZero c) Unclear
-    (cond (ltb (10 * c .count + d) (2 ^ 32)) (Counting (record { word = c .word; some = true; count = 10 * c .count + d })) Unclear)
+    (cond (ltb (10 * c .count + d) (2 ^ 32))
+    (Counting (record { word = c .word; some = true; count = 10 * c .count + d; many = c .many; left = c .left }))
+    Unclear)
 
 abbrev pub countingOf : Count → ℕ → Line
 countingOf c b = withDigit 10 (digitOf b) (countWith c) Unclear
@@ -84,13 +86,15 @@ grownOf (Reading f) b = readingOf f b
 abbrev pub asked : Word → ℕ → Line
 asked word count = Asking (record { word = word; count = count; digits = 0; value = 0 })
 
-abbrev pub toCount : Word → Line
-toCount word = Counting (record { word = word; some = false; count = 0 })
+-- a count is to be read: the first of the line, by 0 and 0; or one after it, with `left` of them to read, this one among them
+abbrev pub toCount : Word → ℕ → ℕ → Line
+toCount word many left = Counting (record { word = word; some = false; count = 0; many = many; left = left })
 
 abbrev pub begins : Form → Word → Line
 begins Doubles word = asked word 0
-begins Counted word = toCount word
-begins Bytes word = toCount word
+begins Counted word = toCount word 0 0
+begins Counts word = toCount word 0 0
+begins Bytes word = toCount word 0 0
 
 abbrev pub knownOf : Known → Line
 knownOf (Is word) = begins (formOf word) word
@@ -101,25 +105,37 @@ abbrev pub namedOf : ℕ → Line
 unfolding wordOf
 namedOf letters = knownOf (wordOf letters)
 
-abbrev pub afterIt : Form → Count → Line
-afterIt Doubles c = asked (c .word) (c .count)
-afterIt Counted c = asked (c .word) (c .count)
-afterIt Bytes c = Reading (record { room = c .count; some = false; half = false; digit = 0 })
+-- the next of the counts that are left is to be read or, where none is, a double
+abbrev pub listingOf : Word → ℕ → ℕ → Line
+listingOf word many zero = asked word many
+listingOf word many (suc left) = toCount word many (suc left)
 
--- a count is whole: it has a digit, and doubles or a file follow
-abbrev pub countedOf : Count → Line
-countedOf c = cond (c .some) (afterIt (formOf (c .word)) c) Unclear
+-- the first count says what follows
+abbrev pub afterIt : Form → Word → ℕ → Line
+afterIt Doubles word n = asked word n
+afterIt Counted word n = asked word n
+afterIt Counts word n = listingOf word n n
+afterIt Bytes word n = Reading (record { room = n; some = false; half = false; digit = 0 })
+
+-- a count after the first is found, and one fewer is left
+abbrev pub afterOne : Word → ℕ → ℕ → ℕ → Step
+afterOne word many zero n = only (afterIt (formOf word) word n)
+afterOne word many (suc left) n = record { line = listingOf word many left; found = IsNumber n }
+
+-- a count is whole: it has a digit, and numbers or a file follow
+abbrev pub countedOf : Count → Step
+countedOf c = cond (c .some) (afterOne (c .word) (c .many) (c .left) (c .count)) (only Unclear)
 
 -- a double is whole: it has 16 digits, and is found
 abbrev pub takenOf : Double → Step
-takenOf q = cond (eqb (q .digits) 16) (record { line = asked (q .word) (q .count); found = IsDouble (q .value) }) (only Unclear)
+takenOf q = cond (eqb (q .digits) 16) (record { line = asked (q .word) (q .count); found = IsNumber (q .value) }) (only Unclear)
 
 abbrev pub partedOf : Line → Step
 partedOf Empty = only Unclear
 partedOf Comment = only Comment
 partedOf Unclear = only Unclear
 partedOf (Naming letters) = only (namedOf letters)
-partedOf (Counting c) = only (countedOf c)
+partedOf (Counting c) = countedOf c
 partedOf (Asking q) = takenOf q
 partedOf (Reading f) = only Unclear
 
@@ -142,7 +158,7 @@ askedOf (Counting c) = NotClear
 askedOf (Asking q) = OfDoubles (record { word = q .word; count = q .count })
 askedOf (Reading f) = OfFile (f .room)
 
--- a last double is whole
+-- a last number is whole
 abbrev pub closedOf : Step → End
 closedOf s = record { asked = askedOf (s .line); found = s .found }
 
@@ -159,7 +175,7 @@ endedOf Empty = endsWith Copied
 endedOf Comment = endsWith Copied
 endedOf Unclear = endsWith NotClear
 endedOf (Naming letters) = endsWith (askedOf (namedOf letters))
-endedOf (Counting c) = endsWith (askedOf (countedOf c))
+endedOf (Counting c) = closedOf (countedOf c)
 endedOf (Asking q) = closedOf (takenOf q)
 endedOf (Reading f) = endsWith (fileOf f)
 

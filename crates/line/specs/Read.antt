@@ -5,18 +5,18 @@ use Rattle.line.specs.Line.{Meaning, copied, unclear, ofDoubles, ofFile}
 use Rattle.line.specs.Next.{nextOf, endedOf}
 use Rattle.line.specs.declared.answer.Line.{Line}
 use Rattle.line.specs.declared.answer.Found.{Found}
-use Rattle.line.specs.declared.answer.Found.the-variants.{Nothing, Double, Byte}
+use Rattle.line.specs.declared.answer.Found.the-variants.{Nothing, Number, Byte}
 use Rattle.line.specs.declared.answer.Asked.{Asked}
 use Rattle.line.specs.declared.answer.Asked.the-variants.{Nothing as Copied, Unclear, OfDoubles, OfFile}
 use Rattle.line.specs.declared.answer.End.{End}
 
--- what was found stands before what the rest of the line asks: a double before doubles, a byte before a file's bytes
+-- what was found stands before what the rest of the line asks: a double or a count before the numbers, a byte before a file's bytes
 abbrev pub joined : Found → Meaning → Meaning
 joined Nothing m = m
-joined (Double v) copied = copied
-joined (Double v) unclear = unclear
-joined (Double v) (ofDoubles word count vs) = ofDoubles word count (v ∷ vs)
-joined (Double v) (ofFile room bytes) = ofFile room bytes
+joined (Number v) copied = copied
+joined (Number v) unclear = unclear
+joined (Number v) (ofDoubles word count vs) = ofDoubles word count (v ∷ vs)
+joined (Number v) (ofFile room bytes) = ofFile room bytes
 joined (Byte b) copied = copied
 joined (Byte b) unclear = unclear
 joined (Byte b) (ofDoubles word count vs) = ofDoubles word count vs

@@ -5,9 +5,9 @@ use Prim.Native.String.{String, [] as []ˢ, _∷_ as _∷ˢ_}
 use mathlib.Core.Bool.{cond}
 use lib.Dec.{eqb}
 use Rattle.line.specs.declared.answer.Word.{Word}
-use Rattle.line.specs.declared.answer.Word.the-variants.{Apart, Run, Ceiling, Plain, Side, Zone, Plane, Meet, Why, Write, Read}
+use Rattle.line.specs.declared.answer.Word.the-variants.{Apart, Run, Ceiling, Plain, Side, Zone, Plane, Meet, Why, Plan, Write, Read}
 use Rattle.line.specs.declared.word.Form.{Form}
-use Rattle.line.specs.declared.word.Form.the-variants.{Doubles, Counted, File}
+use Rattle.line.specs.declared.word.Form.the-variants.{Doubles, Counted, Counts, File}
 use Rattle.line.specs.declared.word.Known.{Known}
 use Rattle.line.specs.declared.word.Known.the-variants.{Word as Is, None}
 
@@ -31,11 +31,12 @@ wordOf letters =
     (isWord letters "plane" Plane
     (isWord letters "meet" Meet
     (isWord letters "why" Why
+    (isWord letters "plan" Plan
     (isWord letters "write" Write
     (isWord letters "read" Read
-    None))))))))))
+    None)))))))))))
 
--- what follows a word: doubles, a count and doubles, or a count and the bytes of a file
+-- what follows a word: doubles; a count and doubles; a count, so many counts and doubles; or a count and the bytes of a file
 abbrev pub formOf : Word → Form
 formOf Apart = Doubles
 formOf Run = Counted
@@ -46,5 +47,6 @@ formOf Zone = Doubles
 formOf Plane = Doubles
 formOf Meet = Doubles
 formOf Why = Counted
+formOf Plan = Counts
 formOf Write = Counted
 formOf Read = File

@@ -11,6 +11,7 @@ pub enum Word {
     Plane,
     Meet,
     Why,
+    Plan,
     Write,
     Read,
 }
@@ -35,12 +36,16 @@ pub struct Counting {
     // Whether a digit was read.
     pub some: bool,
     pub count: u32,
+    // The first count of the line; 0 while it is being read itself.
+    pub many: u32,
+    // How many of the counts after the first are to be read, this one among them; 0 while the first is being read.
+    pub left: u32,
 }
 
 // The double that is being read, by the digits of its pattern.
 pub struct Asking {
     pub word: Word,
-    // The count before the doubles; 0 where there is none.
+    // The first count; 0 where there is none.
     pub count: u32,
     pub digits: u32,
     pub value: u64,
@@ -59,8 +64,8 @@ pub struct Reading {
 // What ends with a byte of a line.
 pub enum Found {
     Nothing,
-    // The pattern of a double.
-    Double(u64),
+    // The pattern of a double, or a count of a plan.
+    Number(u64),
     // A byte of a file.
     Byte(u8),
 }
@@ -71,7 +76,7 @@ pub struct Step {
     pub found: Found,
 }
 
-// A word and its count; 0 where there is none.
+// A word and its first count; 0 where there is none.
 pub struct Question {
     pub word: Word,
     pub count: u32,

@@ -1,6 +1,7 @@
-// The numbers of a question: a count, and doubles.
+// The numbers of a question: counts, and doubles.
 ghost use mathlib.Core.Path.{_≡_};
-ghost use Rattle.line.specs.Next.{isZero, countingOf, countedOf, askingOf, takenOf};
+ghost use Rattle.line.specs.Next.{isZero, countingOf, countedOf, afterIt, toCount, listingOf, askingOf, takenOf};
+ghost use Rattle.line.specs.Word.{formOf};
 use crate::answer::Asking;
 use crate::answer::Counting;
 use crate::answer::Found;
@@ -47,27 +48,72 @@ pub fn counting(c: Counting, b: u8) -> Line
         word: word,
         some: true,
         count: more as u32,
+        many: c.many,
+        left: c.left,
     })
 }
 
-// A count is whole: doubles or a file's bytes follow.
-pub fn counted(c: Counting) -> Line
+// A count is whole: the first says what follows, and any other is found.
+pub fn counted(c: Counting) -> Step
     ensures { λ r. ⌜ r ≡ countedOf c ⌝ }
 {
     if !c.some {
-        return Line::Unclear;
+        return Step {
+            line: Line::Unclear,
+            found: Found::Nothing,
+        };
     }
     let word = c.word;
+    if c.left == 0 {
+        return Step {
+            line: followed(word, c.count),
+            found: Found::Nothing,
+        };
+    }
+    Step {
+        line: listing(word, c.many, c.left - 1),
+        found: Found::Number(c.count as u64),
+    }
+}
+
+// What follows the first count: doubles, counts or a file's bytes.
+fn followed(word: Word, count: u32) -> Line
+    ensures { λ r. ⌜ r ≡ afterIt (formOf word) word count ⌝ }
+{
     match form_of(word) {
-        Form::Doubles => asked(word, c.count),
-        Form::Counted => asked(word, c.count),
+        Form::Doubles => asked(word, count),
+        Form::Counted => asked(word, count),
+        Form::Counts => listing(word, count, count),
         Form::File => Line::Reading(Reading {
-            room: c.count,
+            room: count,
             some: false,
             half: false,
             digit: 0,
         }),
     }
+}
+
+// The next of the counts that are left is to be read or, where none is, the first double.
+fn listing(word: Word, many: u32, left: u32) -> Line
+    ensures { λ r. ⌜ r ≡ listingOf word many left ⌝ }
+{
+    if left == 0 {
+        return asked(word, many);
+    }
+    to_count(word, many, left)
+}
+
+// A count is to be read.
+pub fn to_count(word: Word, many: u32, left: u32) -> Line
+    ensures { λ r. ⌜ r ≡ toCount word many left ⌝ }
+{
+    Line::Counting(Counting {
+        word: word,
+        some: false,
+        count: 0,
+        many: many,
+        left: left,
+    })
 }
 
 // The next double is to be read.
@@ -117,6 +163,6 @@ pub fn taken(q: Asking) -> Step
     let word = q.word;
     Step {
         line: asked(word, q.count),
-        found: Found::Double(q.value),
+        found: Found::Number(q.value),
     }
 }

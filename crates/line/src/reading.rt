@@ -1,21 +1,20 @@
 // A line with one byte more, and its end.
 ghost use mathlib.Core.Path.{_≡_};
-ghost use Rattle.line.specs.Next.{only, begunOf, toCount, namedOf, partedOf, grownOf, NextSays};
+ghost use Rattle.line.specs.Next.{only, begunOf, namedOf, partedOf, grownOf, NextSays};
 ghost use Rattle.line.specs.Next.{askedOf, endsWith, closedOf, EndedSays};
 use crate::answer::Asked;
 use crate::answer::Asking;
-use crate::answer::Counting;
 use crate::answer::End;
 use crate::answer::Found;
 use crate::answer::Line;
 use crate::answer::Question;
 use crate::answer::Step;
-use crate::answer::Word;
 use crate::argument::asked;
 use crate::argument::asking;
 use crate::argument::counted;
 use crate::argument::counting;
 use crate::argument::taken;
+use crate::argument::to_count;
 use crate::file::filed;
 use crate::file::reading;
 use crate::word::Form;
@@ -44,17 +43,6 @@ fn begun(b: u8) -> Line
     naming(0, b)
 }
 
-// A count is to be read.
-fn to_count(word: Word) -> Line
-    ensures { λ r. ⌜ r ≡ toCount word ⌝ }
-{
-    Line::Counting(Counting {
-        word: word,
-        some: false,
-        count: 0,
-    })
-}
-
 // The first word is whole.
 fn named(letters: u64) -> Line
     ensures { λ r. ⌜ r ≡ namedOf letters ⌝ }
@@ -64,8 +52,9 @@ fn named(letters: u64) -> Line
     };
     match form_of(word) {
         Form::Doubles => asked(word, 0),
-        Form::Counted => to_count(word),
-        Form::File => to_count(word),
+        Form::Counted => to_count(word, 0, 0),
+        Form::Counts => to_count(word, 0, 0),
+        Form::File => to_count(word, 0, 0),
     }
 }
 
@@ -78,7 +67,7 @@ fn parted(line: Line) -> Step
         Line::Comment => nothing(Line::Comment),
         Line::Unclear => nothing(Line::Unclear),
         Line::Naming(letters) => nothing(named(letters)),
-        Line::Counting(c) => nothing(counted(c)),
+        Line::Counting(c) => counted(c),
         Line::Asking(q) => taken(q),
         Line::Reading(_) => nothing(Line::Unclear),
     }
@@ -144,7 +133,7 @@ fn ends(asked: Asked) -> End
     }
 }
 
-// A last double is whole.
+// A last number is whole.
 fn closed(s: Step) -> End
     ensures { λ r. ⌜ r ≡ closedOf s ⌝ }
 {
@@ -165,7 +154,7 @@ pub fn ended(line: Line) -> End
         Line::Comment => ends(Asked::Nothing),
         Line::Unclear => ends(Asked::Unclear),
         Line::Naming(letters) => ends(asked_by(named(letters))),
-        Line::Counting(c) => ends(asked_by(counted(c))),
+        Line::Counting(c) => closed(counted(c)),
         Line::Asking(q) => closed(taken(q)),
         Line::Reading(f) => ends(filed(f)),
     }

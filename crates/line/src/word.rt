@@ -10,10 +10,11 @@ pub enum Known {
     None,
 }
 
-// What follows a word: doubles, a count and doubles, or a count and a file's bytes.
+// What follows a word: doubles; a count and doubles; a count, so many counts and doubles; or a count and a file's bytes.
 pub enum Form {
     Doubles,
     Counted,
+    Counts,
     File,
 }
 
@@ -35,6 +36,8 @@ const PLANE: u64 = 0x706C_616E_65;
 const MEET: u64 = 0x6D65_6574;
 
 const WHY: u64 = 0x7768_79;
+
+const PLAN: u64 = 0x706C_616E;
 
 const WRITE: u64 = 0x7772_6974_65;
 
@@ -86,6 +89,9 @@ pub fn word_of(letters: u64) -> Known
     if letters == WHY {
         return Known::Word(Word::Why);
     }
+    if letters == PLAN {
+        return Known::Word(Word::Plan);
+    }
     if letters == WRITE {
         return Known::Word(Word::Write);
     }
@@ -108,6 +114,7 @@ pub fn form_of(word: Word) -> Form
         Word::Plane => Form::Doubles,
         Word::Meet => Form::Doubles,
         Word::Why => Form::Counted,
+        Word::Plan => Form::Counts,
         Word::Write => Form::Counted,
         Word::Read => Form::File,
     }

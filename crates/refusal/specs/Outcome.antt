@@ -10,7 +10,7 @@ pub data Outcome (A : Type 0) : Type 0 where
 
 -- ---- the table's numbers
 
--- Refusals 1: a sum's list over 1,024, a zone over 64 corners, a track over 512 points
+-- Refusals 1: a sum's list over 1,024, a zone over 64 corners, a plan over 16 zones, a track over 512 points
 abbrev pub tooMany : ℕ
 tooMany = 1
 
@@ -26,7 +26,8 @@ notAccepted = 3
 abbrev pub tooFewCorners : ℕ
 tooFewCorners = 4
 
--- Refusals 5: a list of corners or points of odd length; corners' bytes of the viewer that are no multiple of 16
+-- Refusals 5: a list of corners or points of odd length; corners' bytes of the viewer that are no multiple of 16; a plan's list that is not as long as
+-- counted
 abbrev pub oddLength : ℕ
 oddLength = 5
 

@@ -6,7 +6,7 @@ pub struct Refusal {
     pub place: usize,
 }
 
-// Refusals 1: a sum's list over 1,024, a zone over 64 corners, a track over 512 points.
+// Refusals 1: a sum's list over 1,024, a zone over 64 corners, a plan over 16 zones, a track over 512 points.
 pub const TOO_MANY: u32 = 1;
 
 // Refusals 2: an infinity or a not-a-number, in a sum's list or to be taken apart.
@@ -18,7 +18,8 @@ pub const NOT_ACCEPTED: u32 = 3;
 // Refusals 4: a zone of fewer than 3 corners.
 pub const TOO_FEW_CORNERS: u32 = 4;
 
-// Refusals 5: a list of corners or points of odd length; corners' bytes of the viewer that are no multiple of 16.
+// Refusals 5: a list of corners or points of odd length; corners' bytes of the viewer that are no multiple of 16; a plan's list that is not as long
+// as counted.
 pub const ODD_LENGTH: u32 = 5;
 
 // Refusals 6: a file that ends before a number or inside one.

@@ -1,4 +1,4 @@
--- The count of a line, read byte by byte. In order: a count too large stays so; the digits after a first one; all of them.
+-- A count of a line, read byte by byte. In order: a count too large stays so; the digits after a first one; all of them.
 -- Assumes nothing.
 use mathlib.Core.Path.{_≡_, refl, sym, ap, _∙_}
 use mathlib.Core.Bool.{Bool, true, false, cond}
@@ -8,17 +8,16 @@ use native.Mathlib.Omega.{arith}
 use lib.Dec.{eqb, ltb}
 use borrow.Author.Tests.{eq-eqb, ne-eqb, lt-ltb, le-ltb, ltb-true, ltb-false, eqb-true, eqb-false}
 use Rattle.line.specs.Numeral.{Numeral, number, none, withDigit, digitOf, onward, small, countOf}
-use Rattle.line.specs.Word.{formOf}
 use Rattle.line.specs.Line.{Meaning, unclear, firstOf, laterOf, withNumber}
-use Rattle.line.specs.Next.{endedOf, askedOf, toCount, countWith, afterIt}
-use Rattle.line.specs.Read.{bare, readFrom}
+use Rattle.line.specs.Next.{endedOf, closedOf, toCount, countWith, afterOne}
+use Rattle.line.specs.Read.{endMeaning, readFrom}
 use Rattle.line.specs.declared.digit.Digit.{Digit}
 use Rattle.line.specs.declared.digit.Digit.the-variants.{Value, None}
 use Rattle.line.specs.declared.answer.Word.{Word}
 use Rattle.line.specs.declared.answer.Line.the-variants.{Unclear, Counting}
 use Rattle.line.specs.declared.answer.Counting.{Counting as Count}
 use Rattle.line.proofs.Laws.Digit.{digit-nonzero}
-use Rattle.line.proofs.Laws.Read.{space-read, space-first, space-later, other-read, other-first, other-later, read-unclear}
+use Rattle.line.proofs.Laws.Read.{after, space-read, space-first, space-later, other-read, other-first, other-later, read-unclear}
 
 -- no digit makes a count smaller
 large-stays : (word : List ℕ) (v : ℕ) → 2 ^ 32 ≤ v → small (onward 10 v word) ≡ none
@@ -79,23 +78,23 @@ count-none b (c ∷ word) e = go (eqb b 48)
     go false = rw e refl
 
 -- ---- a count, and what follows it
-abbrev pub counted : Word → ℕ → Count
-counted word n = record { word = word; some = true; count = n }
-
-module _ (word : Word) (k : ℕ → List (List ℕ) → Meaning)
-    (ends : (n : ℕ) → bare (askedOf (afterIt (formOf word) (counted word n))) ≡ k n [])
-    (goes : (n : ℕ) (bytes : List ℕ) → readFrom (afterIt (formOf word) (counted word n)) bytes ≡ k n (firstOf bytes ∷ laterOf bytes)) where
+module _ (word : Word) (many left : ℕ) (k : ℕ → List (List ℕ) → Meaning)
+    (ends : (n : ℕ) → endMeaning (closedOf (afterOne word many left n)) ≡ k n [])
+    (goes : (n : ℕ) (bytes : List ℕ) → after (afterOne word many left n) bytes ≡ k n (firstOf bytes ∷ laterOf bytes)) where
   follows : List (List ℕ) → Numeral → Meaning
   follows later z = withNumber z (λ n. k n later)
 
+  abbrev so-far : ℕ → Count
+  so-far n = record { word = word; some = true; count = n; many = many; left = left }
+
   Reads : ℕ → List ℕ → Type 0
-  Reads n bytes = readFrom (Counting (counted word n)) bytes ≡ follows (laterOf bytes) (countFrom n (firstOf bytes))
+  Reads n bytes = readFrom (Counting (so-far n)) bytes ≡ follows (laterOf bytes) (countFrom n (firstOf bytes))
 
   counting-other : (n b : ℕ) (bytes : List ℕ) → eqb b 32 ≡ false
       → ((d : ℕ) → 10 * n + d < 2 ^ 32 → Reads (10 * n + d) bytes) → Reads n (b ∷ bytes)
   unfolding Reads follows countFrom onward
   counting-other n b bytes e ih =
-      other-read b bytes e (Counting (counted word n)) ∙ go (digitOf b) ∙ rw (other-first b bytes e, other-later b bytes e) refl
+      other-read b bytes e (Counting (so-far n)) ∙ go (digitOf b) ∙ rw (other-first b bytes e, other-later b bytes e) refl
     where
       more : Numeral → Meaning
       more = follows (laterOf bytes)
@@ -105,7 +104,7 @@ module _ (word : Word) (k : ℕ → List (List ℕ) → Meaning)
       neither false = refl
 
       pick : (d : ℕ) (t u : Bool) → eqb n 0 ≡ u → (v : Bool) → ltb (10 * n + d) (2 ^ 32) ≡ v
-          → readFrom (cond t (countWith (counted word n) d) Unclear) bytes
+          → readFrom (cond t (countWith (so-far n) d) Unclear) bytes
           ≡ more (cond (eqb n 0) none (small (cond t (onward 10 (10 * n + d) (firstOf bytes)) none)))
       pick d true true f v g = rw f (read-unclear bytes)
       pick d true false f true g =
@@ -116,7 +115,7 @@ module _ (word : Word) (k : ℕ → List (List ℕ) → Meaning)
           rw (f, g) (read-unclear bytes ∙ sym (ap more (large-stays (firstOf bytes) (10 * n + d) (ltb-false (10 * n + d) (2 ^ 32) g))))
       pick d false u f v g = read-unclear bytes ∙ neither (eqb n 0)
 
-      go : (z : Digit) → readFrom (withDigit 10 z (countWith (counted word n)) Unclear) bytes
+      go : (z : Digit) → readFrom (withDigit 10 z (countWith (so-far n)) Unclear) bytes
           ≡ more (cond (eqb n 0) none (small (withDigit 10 z (λ d. onward 10 (10 * n + d) (firstOf bytes)) none)))
       go (Value d) = pick d (ltb d 10) (eqb n 0) refl (ltb (10 * n + d) (2 ^ 32)) refl
       go None = read-unclear bytes ∙ neither (eqb n 0)
@@ -128,10 +127,11 @@ module _ (word : Word) (k : ℕ → List (List ℕ) → Meaning)
     where
       go : (t : Bool) → eqb b 32 ≡ t → ((d : ℕ) → 10 * n + d < 2 ^ 32 → Reads (10 * n + d) bytes) → Reads n (b ∷ bytes)
       go true e ih =
-          space-read b bytes e (Counting (counted word n)) ∙ goes n bytes ∙ rw (space-first b bytes e, space-later b bytes e) refl
+          space-read b bytes e (Counting (so-far n)) ∙ goes n bytes ∙ rw (space-first b bytes e, space-later b bytes e) refl
       go false e ih = counting-other n b bytes e ih
 
-  pub read-count : (bytes : List ℕ) → readFrom (toCount word) bytes ≡ withNumber (countOf (firstOf bytes)) (λ n. k n (laterOf bytes))
+  pub read-count : (bytes : List ℕ)
+      → readFrom (toCount word many left) bytes ≡ withNumber (countOf (firstOf bytes)) (λ n. k n (laterOf bytes))
   unfolding Reads follows countOf readFrom endedOf firstOf laterOf
   read-count [] = refl
   read-count (b ∷ bytes) = go (eqb b 32) refl
@@ -140,7 +140,7 @@ module _ (word : Word) (k : ℕ → List (List ℕ) → Meaning)
       more = follows (laterOf bytes)
 
       begun : Count
-      begun = record { word = word; some = false; count = 0 }
+      begun = record { word = word; some = false; count = 0; many = many; left = left }
 
       pick : (d : ℕ) → digitOf b ≡ Value d → (t : Bool) → ltb d 10 ≡ t
           → readFrom (cond t (countWith begun d) Unclear) bytes ≡ more (countOf (b ∷ firstOf bytes))
@@ -155,6 +155,7 @@ module _ (word : Word) (k : ℕ → List (List ℕ) → Meaning)
       other (Value d) e = pick d e (ltb d 10) refl
       other None e = read-unclear bytes ∙ sym (ap more (count-none b (firstOf bytes) (onward-none b (firstOf bytes) e)))
 
-      go : (t : Bool) → eqb b 32 ≡ t → readFrom (toCount word) (b ∷ bytes) ≡ follows (laterOf (b ∷ bytes)) (countOf (firstOf (b ∷ bytes)))
-      go true e = space-read b bytes e (toCount word) ∙ read-unclear bytes ∙ rw (space-first b bytes e) refl
-      go false e = other-read b bytes e (toCount word) ∙ other (digitOf b) refl ∙ rw (other-first b bytes e, other-later b bytes e) refl
+      go : (t : Bool) → eqb b 32 ≡ t
+          → readFrom (toCount word many left) (b ∷ bytes) ≡ follows (laterOf (b ∷ bytes)) (countOf (firstOf (b ∷ bytes)))
+      go true e = space-read b bytes e (toCount word many left) ∙ read-unclear bytes ∙ rw (space-first b bytes e) refl
+      go false e = other-read b bytes e (toCount word many left) ∙ other (digitOf b) refl ∙ rw (other-first b bytes e, other-later b bytes e) refl

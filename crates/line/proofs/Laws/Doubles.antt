@@ -20,21 +20,22 @@ use Rattle.line.specs.declared.answer.Word.{Word}
 use Rattle.line.specs.declared.answer.Line.{Line}
 use Rattle.line.specs.declared.answer.Line.the-variants.{Unclear, Asking}
 use Rattle.line.specs.declared.answer.Asking.{Asking as Double}
-use Rattle.line.specs.declared.answer.Found.the-variants.{Double as IsDouble}
+use Rattle.line.specs.declared.answer.Found.the-variants.{Number as IsNumber}
 use Rattle.line.proofs.Laws.Read.{after, space-read, space-first, space-later, other-read, other-first, other-later, read-unclear}
 
-joined-doubles : (v : ℕ) (words : List (List ℕ)) (k l : List ℕ → Meaning) → ((vs : List ℕ) → joined (IsDouble v) (k vs) ≡ l vs)
-    → joined (IsDouble v) (doublesOf words k) ≡ doublesOf words l
+-- what is found stands before what goes on with a number
+pub joined-number : (v : ℕ) (z : Numeral) (f g : ℕ → Meaning) → ((x : ℕ) → joined (IsNumber v) (f x) ≡ g x)
+    → joined (IsNumber v) (withNumber z f) ≡ withNumber z g
+joined-number v (number x) f g h = h x
+joined-number v none f g h = refl
+
+pub joined-doubles : (v : ℕ) (words : List (List ℕ)) (k l : List ℕ → Meaning) → ((vs : List ℕ) → joined (IsNumber v) (k vs) ≡ l vs)
+    → joined (IsNumber v) (doublesOf words k) ≡ doublesOf words l
 unfolding doublesOf
 joined-doubles v [] k l h = h []
 joined-doubles v (word ∷ words) k l h =
-    go (patternOf word) (λ x. joined-doubles v words (λ vs. k (x ∷ vs)) (λ vs. l (x ∷ vs)) (λ vs. h (x ∷ vs)))
-  where
-    go : (n : Numeral) → ((x : ℕ) → joined (IsDouble v) (doublesOf words (λ vs. k (x ∷ vs))) ≡ doublesOf words (λ vs. l (x ∷ vs)))
-        → joined (IsDouble v) (withNumber n (λ x. doublesOf words (λ vs. k (x ∷ vs))))
-        ≡ withNumber n (λ x. doublesOf words (λ vs. l (x ∷ vs)))
-    go (number x) ih = ih x
-    go none ih = refl
+    joined-number v (patternOf word) (λ x. doublesOf words (λ vs. k (x ∷ vs))) (λ x. doublesOf words (λ vs. l (x ∷ vs)))
+    (λ x. joined-doubles v words (λ vs. k (x ∷ vs)) (λ vs. l (x ∷ vs)) (λ vs. h (x ∷ vs)))
 
 -- a word that goes on after so many digits of a double
 doubleFrom : ℕ → ℕ → List ℕ → Numeral
@@ -69,10 +70,10 @@ module _ (word : Word) (count : ℕ) where
     asking-space e ih =
         space-read b bytes e (asking digits value) ∙ go (eqb digits 16) refl ∙ rw (space-first b bytes e, space-later b bytes e) refl
       where
-        whole : joined (IsDouble value) (readFrom (asking 0 0) bytes)
+        whole : joined (IsNumber value) (readFrom (asking 0 0) bytes)
             ≡ doublesOf (firstOf bytes ∷ laterOf bytes) (λ vs. ofDoubles word count (value ∷ vs))
         whole =
-            ap (joined (IsDouble value)) (ih ∙ none-begun (firstOf bytes) (laterOf bytes))
+            ap (joined (IsNumber value)) (ih ∙ none-begun (firstOf bytes) (laterOf bytes))
             ∙ joined-doubles value (firstOf bytes ∷ laterOf bytes) (ofDoubles word count) (λ vs. ofDoubles word count (value ∷ vs))
             (λ vs. refl)
 

@@ -1,8 +1,9 @@
 -- What a byte more does to a line, way by way. In order: a digit; a count; a double; a file; a letter; the first word; the promises.
 -- Assumes nothing.
-use mathlib.Core.Path.{_≡_, sym, ap, _∙_}
+use mathlib.Core.Path.{_≡_, refl, sym, ap, _∙_}
 use mathlib.Core.Bool.{true, false, not}
-use Prim.Native.Nat.{ℕ, _+_, _*_, _^_, _%_, _≤_, _<_}
+use Prim.Native.Nat.{ℕ, zero, suc, _+_, _-_, _*_, _^_, _%_, _≤_, _<_}
+use native.Mathlib.Numerals.{sub-one}
 use native.Mathlib.Omega.{arith}
 use Prim.Native.String.{String}
 use lib.Dec.{eqb}
@@ -14,8 +15,8 @@ use Rattle.line.proofs.Laws.Digit.{digit-small}
 use Rattle.line.specs.Numeral.{withDigit, digitOf}
 use Rattle.line.specs.Word.{lettersOf, wordOf, formOf}
 use Rattle.line.specs.Next.{only, isZero, countWith, countingOf, doubleWith, askingOf, fileWith, readingOf, namingOf}
-use Rattle.line.specs.Next.{begunOf, asked, begins, knownOf, namedOf, afterIt, countedOf, takenOf, fileOf, askedOf, closedOf}
-use Rattle.line.specs.Next.{partedOf, grownOf, nextOf, NextSays, EndedSays}
+use Rattle.line.specs.Next.{begunOf, asked, toCount, begins, knownOf, namedOf, listingOf, afterIt, afterOne, countedOf, takenOf}
+use Rattle.line.specs.Next.{fileOf, askedOf, closedOf, partedOf, grownOf, nextOf, NextSays, EndedSays}
 use Rattle.line.specs.declared.digit.Digit.{Digit}
 use Rattle.line.specs.declared.digit.Digit.the-variants.{Value, None}
 use Rattle.line.specs.declared.answer.Word.{Word}
@@ -24,7 +25,7 @@ use Rattle.line.specs.declared.answer.Line.the-variants.{Comment, Unclea
 use Rattle.line.specs.declared.answer.Counting.{Counting as Count}
 use Rattle.line.specs.declared.answer.Asking.{Asking as Double}
 use Rattle.line.specs.declared.answer.Reading.{Reading as File}
-use Rattle.line.specs.declared.answer.Found.the-variants.{Double as IsDouble, Byte}
+use Rattle.line.specs.declared.answer.Found.the-variants.{Number as IsNumber, Byte}
 use Rattle.line.specs.declared.answer.Step.{Step}
 use Rattle.line.specs.declared.answer.Asked.{Asked}
 use Rattle.line.specs.declared.answer.Asked.the-variants.{Unclear as NotClear, OfFile}
@@ -66,15 +67,36 @@ module _ (c : Count) (b d : ℕ) (e : digitOf b ≡ Value d) where
   count-large h z k = with-count h (rw (z, le-ltb (10 * c .count + d) (2 ^ 32) (omega arith)))
 
   pub count-more : d ≤ 9 → isZero c ≡ false → 10 * c .count + d ≤ 0xFFFF_FFFF
-      → Counting (record { word = c .word; some = true; count = 10 * c .count + d }) ≡ countingOf c b
+      → Counting (record { word = c .word; some = true; count = 10 * c .count + d; many = c .many; left = c .left }) ≡ countingOf c b
   count-more h z k = with-count h (rw (z, lt-ltb (10 * c .count + d) (2 ^ 32) (omega arith)))
 
+module _ (word : Word) (many : ℕ) where
+  pub listing-over : (left : ℕ) → left ≡ 0 → asked word many ≡ listingOf word many left
+  listing-over left e = rw e
+
+  pub listing-more : (left : ℕ) → (left ≡ 0 → ⊥) → toCount word many left ≡ listingOf word many left
+  listing-more zero n = absurd (n refl)
+  listing-more (suc left) n = refl
+
+  one-later : (left n : ℕ) → (left ≡ 0 → ⊥)
+      → record { line = listingOf word many (left - 1); found = IsNumber n } ≡ afterOne word many left n
+  one-later zero n e = absurd (e refl)
+  one-later (suc left) n e = rw sub-one
+
+pub after-form : (word : Word) (n : ℕ) (f : Form) → formOf word ≡ f → afterIt f word n ≡ afterIt (formOf word) word n
+after-form word n f e = rw e
+
 module _ (c : Count) where
-  pub counted-none : not (c .some) ≡ true → Unclear ≡ countedOf c
+  pub counted-none : not (c .some) ≡ true → only Unclear ≡ countedOf c
   counted-none e = rw (not-true (c .some) e)
 
-  pub counted-some : (f : Form) → not (c .some) ≡ false → formOf (c .word) ≡ f → afterIt f c ≡ countedOf c
-  counted-some f e g = rw (not-false (c .some) e, g)
+  pub counted-first : (line : Line) → not (c .some) ≡ false → c .left ≡ 0 → line ≡ afterIt (formOf (c .word)) (c .word) (c .count)
+      → only line ≡ countedOf c
+  counted-first line e f l = rw (not-false (c .some) e, f, l)
+
+  pub counted-later : (line : Line) → not (c .some) ≡ false → (c .left ≡ 0 → ⊥) → line ≡ listingOf (c .word) (c .many) (c .left - 1)
+      → record { line = line; found = IsNumber (c .count) } ≡ countedOf c
+  counted-later line e n l = rw (not-false (c .some) e, l) (one-later (c .word) (c .many) (c .left) (c .count) n)
 
 -- ---- a double
 module _ (q : Double) (b d : ℕ) (e : digitOf b ≡ Value d) where
@@ -99,7 +121,7 @@ module _ (q : Double) where
   taken-short n = rw (ne-eqb (q .digits) 16 n)
 
   pub taken-whole : (line : Line) → q .digits ≡ 16 → line ≡ asked (q .word) (q .count)
-      → record { line = line; found = IsDouble (q .value) } ≡ takenOf q
+      → record { line = line; found = IsNumber (q .value) } ≡ takenOf q
   taken-whole line e l = rw (eq-eqb (q .digits) 16 e, l)
 
 -- ---- a file
@@ -148,9 +170,9 @@ module _ (letters : ℕ) where
   is-not name = letters ≡ lettersOf 0 name → ⊥
 
   pub word-none : is-not "apart" → is-not "run" → is-not "ceiling" → is-not "plain" → is-not "side" → is-not "zone" → is-not "plane"
-      → is-not "meet" → is-not "why" → is-not "write" → is-not "read" → Other ≡ wordOf letters
+      → is-not "meet" → is-not "why" → is-not "plan" → is-not "write" → is-not "read" → Other ≡ wordOf letters
   unfolding wordOf
-  word-none n1 n2 n3 n4 n5 n6 n7 n8 n9 n10 n11 =
+  word-none n1 n2 n3 n4 n5 n6 n7 n8 n9 n10 n11 n12 =
       rw (
         ne-eqb letters _ n1,
         ne-eqb letters _ n2,
@@ -163,6 +185,7 @@ module _ (letters : ℕ) where
         ne-eqb letters _ n9,
         ne-eqb letters _ n10,
         ne-eqb letters _ n11,
+        ne-eqb letters _ n12,
       )
 
   pub named-other : wordOf letters ≡ Other → Unclear ≡ namedOf letters

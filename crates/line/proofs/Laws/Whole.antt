@@ -8,27 +8,29 @@ use lib.Dec.{eqb, ltb}
 use borrow.Author.Tests.{eqb-true}
 use Rattle.line.specs.Numeral.{Numeral, none, countOf}
 use Rattle.line.specs.Word.{wordOf, formOf}
-use Rattle.line.specs.Line.{Meaning, copied, unclear, ofDoubles, firstOf, laterOf, withNumber, doublesOf, bytesOf}
+use Rattle.line.specs.Line.{Meaning, copied, unclear, ofDoubles, firstOf, laterOf, withNumber, doublesOf, numbersOf, bytesOf}
 use Rattle.line.specs.Line.{fileIn, inForm, ofWord, nameOf, meaningOf}
 use Rattle.line.specs.Next.{endedOf, askedOf, begins, knownOf, namingOf}
 use Rattle.line.specs.Read.{bare, readFrom}
 use Rattle.line.specs.declared.answer.Word.{Word}
 use Rattle.line.specs.declared.answer.Line.the-variants.{Empty, Comment, Unclear, Naming}
 use Rattle.line.specs.declared.word.Form.{Form}
-use Rattle.line.specs.declared.word.Form.the-variants.{Doubles, Counted, File}
+use Rattle.line.specs.declared.word.Form.the-variants.{Doubles, Counted, Counts, File}
 use Rattle.line.specs.declared.word.Known.{Known}
 use Rattle.line.specs.declared.word.Known.the-variants.{Word as Is, None}
 use Rattle.line.proofs.Laws.Read.{space-read, space-first, space-later, other-read, other-first, other-later}
 use Rattle.line.proofs.Laws.Read.{read-unclear, read-comment}
 use Rattle.line.proofs.Laws.Doubles.{read-doubles}
 use Rattle.line.proofs.Laws.Count.{read-count}
+use Rattle.line.proofs.Laws.Numbers.{numbers-end, read-numbers}
 use Rattle.line.proofs.Laws.Bytes.{read-file}
 
 -- ---- what follows the first word
 form-ends : (form : Form) (word : Word) → bare (askedOf (begins form word)) ≡ inForm form word []
-unfolding doublesOf countOf
+unfolding doublesOf numbersOf countOf
 form-ends Doubles word = refl
 form-ends Counted word = refl
+form-ends Counts word = refl
 form-ends File word = refl
 
 known-ends : (known : Known) → bare (askedOf (knownOf known)) ≡ ofWord known []
@@ -37,11 +39,14 @@ known-ends None = refl
 
 form-goes : (form : Form) (word : Word) → formOf word ≡ form → (bytes : List ℕ)
     → readFrom (begins form word) bytes ≡ inForm form word (firstOf bytes ∷ laterOf bytes)
-unfolding doublesOf countOf bytesOf
+unfolding doublesOf numbersOf countOf bytesOf
 form-goes Doubles word e bytes = read-doubles word 0 bytes
 form-goes Counted word e bytes =
-    read-count word (λ n rest. doublesOf rest (ofDoubles word n)) (λ n. rw e refl) (λ n more. rw e (read-doubles word n more)) bytes
-form-goes File word e bytes = read-count word (λ n rest. fileIn rest n) (λ n. rw e refl) (λ n more. rw e (read-file n more)) bytes
+    read-count word 0 0 (λ n rest. doublesOf rest (ofDoubles word n)) (λ n. rw e refl) (λ n more. rw e (read-doubles word n more)) bytes
+form-goes Counts word e bytes =
+    read-count word 0 0 (λ n rest. numbersOf n rest (ofDoubles word n)) (λ n. rw e (numbers-end word n n))
+    (λ n more. rw e (read-numbers word n n more)) bytes
+form-goes File word e bytes = read-count word 0 0 (λ n rest. fileIn rest n) (λ n. rw e refl) (λ n more. rw e (read-file n more)) bytes
 
 known-goes : (known : Known) (bytes : List ℕ) → readFrom (knownOf known) bytes ≡ ofWord known (firstOf bytes ∷ laterOf bytes)
 known-goes (Is word) bytes = form-goes (formOf word) word refl bytes

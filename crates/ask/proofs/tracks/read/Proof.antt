@@ -19,6 +19,12 @@ unclear-requires c κs = search needs
 returns : tie.Need-returns
 returns c = search needs
 
+unclear-requires-2 : tie.Need-unclear-requires-2
+unclear-requires-2 c κs = search needs
+
+returns-2 : tie.Need-returns-2
+returns-2 c = search needs
+
 slice-relend-prefix-read : tie.Need-slice-relend-prefix-read
 slice-relend-prefix-read c = search needs
 
@@ -43,14 +49,14 @@ refused-requires c κs = search needs
 same-length : tie.Need-same-length
 same-length c = search needs
 
-returns-2 : tie.Need-returns-2
-returns-2 c = search needs
+returns-3 : tie.Need-returns-3
+returns-3 c = search needs
 
 same-length-2 : tie.Need-same-length-2
 same-length-2 c = search needs
 
-returns-3 : tie.Need-returns-3
-returns-3 c = search needs
+returns-4 : tie.Need-returns-4
+returns-4 c = search needs
 
 pub read-spec : {M : Type 1} → statement M
 read-spec =
@@ -58,6 +64,8 @@ read-spec =
     (tie.spec
     unclear-requires
     returns
+    unclear-requires-2
+    returns-2
     slice-relend-prefix-read
     slice-aggregate-read
     read-requires
@@ -66,6 +74,6 @@ read-spec =
     enum-known-r
     refused-requires
     same-length
-    returns-2
+    returns-3
     same-length-2
-    returns-3)
+    returns-4)

@@ -50,11 +50,8 @@ enum-known-line-2 c = search needs
 counted-requires : tie.Need-counted-requires
 counted-requires c κs = search needs
 
-asked-by-requires-2 : tie.Need-asked-by-requires-2
-asked-by-requires-2 c κs = search needs
-
-ends-requires-5 : tie.Need-ends-requires-5
-ends-requires-5 c κs = search needs
+closed-requires : tie.Need-closed-requires
+closed-requires c κs = search needs
 
 enum-known-line-3 : tie.Need-enum-known-line-3
 enum-known-line-3 c = search needs
@@ -62,8 +59,8 @@ enum-known-line-3 c = search needs
 taken-requires : tie.Need-taken-requires
 taken-requires c κs = search needs
 
-closed-requires : tie.Need-closed-requires
-closed-requires c κs = search needs
+closed-requires-2 : tie.Need-closed-requires-2
+closed-requires-2 c κs = search needs
 
 enum-known-line-4 : tie.Need-enum-known-line-4
 enum-known-line-4 c = search needs
@@ -71,8 +68,8 @@ enum-known-line-4 c = search needs
 filed-requires : tie.Need-filed-requires
 filed-requires c κs = search needs
 
-ends-requires-6 : tie.Need-ends-requires-6
-ends-requires-6 c κs = search needs
+ends-requires-5 : tie.Need-ends-requires-5
+ends-requires-5 c κs = search needs
 
 returns : tie.Need-returns
 unfolding endedOf
@@ -95,18 +92,15 @@ returns-4 c =
 
 returns-5 : tie.Need-returns-5
 unfolding endedOf
-returns-5 c =
-    let call = c .before .before in
-    let asked = c .before .asked-by2 .ensures ∙ ap askedOf (call .counted .ensures) in
-    c .ends5 .ensures ∙ ap endsWith asked ∙ sym (ap endedOf (call .before .before .line2 .given .1))
+returns-5 c = c .closed .ensures ∙ ap closedOf (c .before .counted .ensures) ∙ sym (ap endedOf (c .before .before .before .line2 .given .1))
 
 returns-6 : tie.Need-returns-6
 unfolding endedOf
-returns-6 c = c .closed .ensures ∙ ap closedOf (c .before .taken .ensures) ∙ sym (ap endedOf (c .before .before .before .line3 .given .1))
+returns-6 c = c .closed2 .ensures ∙ ap closedOf (c .before .taken .ensures) ∙ sym (ap endedOf (c .before .before .before .line3 .given .1))
 
 returns-7 : tie.Need-returns-7
 unfolding endedOf
-returns-7 c = c .ends6 .ensures ∙ ap endsWith (c .before .filed .ensures) ∙ sym (ap endedOf (c .before .before .before .line4 .given .1))
+returns-7 c = c .ends5 .ensures ∙ ap endsWith (c .before .filed .ensures) ∙ sym (ap endedOf (c .before .before .before .line4 .given .1))
 
 pub ended-spec : {M : Type 1} → statement M
 ended-spec =
@@ -124,14 +118,13 @@ ended-spec =
     ends-requires-4
     enum-known-line-2
     counted-requires
-    asked-by-requires-2
-    ends-requires-5
+    closed-requires
     enum-known-line-3
     taken-requires
-    closed-requires
+    closed-requires-2
     enum-known-line-4
     filed-requires
-    ends-requires-6
+    ends-requires-5
     returns
     returns-2
     returns-3

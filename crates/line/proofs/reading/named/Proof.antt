@@ -1,14 +1,14 @@
 -- `reading::named` meets its contract: by the word, and by its form. Assumes nothing.
 use borrow.Author.Needs.{needs}
 use mathlib.Core.Path.{sym, _∙_}
-use Rattle.line.specs.declared.word.Form.the-variants.{Doubles, Counted, File}
+use Rattle.line.specs.declared.word.Form.the-variants.{Doubles, Counted, Counts, File}
 use Rattle.line.proofs.Laws.Next.{named-other, named-known}
 use Rattle.line.proofs.reading.named.Statement.{statement}
 use Rattle.line.proofs.reading.named.Tie as tie
 use Rattle.line.proofs.reading.named.Reads as reads
 use Rattle.line.proofs.reading.named.Lts as lts
 use Rattle.line.proofs.argument.asked.Reads as asked-reads
-use Rattle.line.proofs.reading.to_count.Reads as to-count-reads
+use Rattle.line.proofs.argument.to_count.Reads as to-count-reads
 use Rattle.line.proofs.word.form_of.Reads as form-of-reads
 use Rattle.line.proofs.word.word_of.Reads as word-of-reads
 
@@ -45,6 +45,12 @@ enum-told-4 c = search needs
 to-count-requires-2 : tie.Need-to-count-requires-2
 to-count-requires-2 c κs = search needs
 
+enum-told-5 : tie.Need-enum-told-5
+enum-told-5 c = search needs
+
+to-count-requires-3 : tie.Need-to-count-requires-3
+to-count-requires-3 c κs = search needs
+
 returns-2 : tie.Need-returns-2
 returns-2 c =
     let asks = c .before .before .before in
@@ -70,7 +76,16 @@ returns-4 c =
     let call = match .before .before in
     let known = sym (call .word-of .ensures) ∙ match .word .given .1 in
     let form = sym (asks .form-of .ensures) ∙ c .before .enum-told4 .given .1 in
-    c .to-count2 .ensures ∙ named-known (call .before .args .letters) _ File known form
+    c .to-count2 .ensures ∙ named-known (call .before .args .letters) _ Counts known form
+
+returns-5 : tie.Need-returns-5
+returns-5 c =
+    let asks = c .before .before .before in
+    let match = asks .before .before in
+    let call = match .before .before in
+    let known = sym (call .word-of .ensures) ∙ match .word .given .1 in
+    let form = sym (asks .form-of .ensures) ∙ c .before .enum-told5 .given .1 in
+    c .to-count3 .ensures ∙ named-known (call .before .args .letters) _ File known form
 
 pub named-spec : {M : Type 1} → statement M
 named-spec =
@@ -87,6 +102,9 @@ named-spec =
     to-count-requires
     enum-told-4
     to-count-requires-2
+    enum-told-5
+    to-count-requires-3
     returns-2
     returns-3
-    returns-4)
+    returns-4
+    returns-5)

@@ -44,9 +44,6 @@ enum-known-line-2 c = search needs
 counted-requires : tie.Need-counted-requires
 counted-requires c κs = search needs
 
-nothing-requires-5 : tie.Need-nothing-requires-5
-nothing-requires-5 c κs = search needs
-
 enum-known-line-3 : tie.Need-enum-known-line-3
 enum-known-line-3 c = search needs
 
@@ -56,8 +53,8 @@ taken-requires c κs = search needs
 enum-told-4 : tie.Need-enum-told-4
 enum-told-4 c = search needs
 
-nothing-requires-6 : tie.Need-nothing-requires-6
-nothing-requires-6 c κs = search needs
+nothing-requires-5 : tie.Need-nothing-requires-5
+nothing-requires-5 c κs = search needs
 
 returns : tie.Need-returns
 returns c = c .nothing .ensures ∙ sym (ap partedOf (c .before .enum-told .given .1))
@@ -72,13 +69,13 @@ returns-4 : tie.Need-returns-4
 returns-4 c = c .nothing4 .ensures ∙ ap only (c .before .named .ensures) ∙ sym (ap partedOf (c .before .before .before .line .given .1))
 
 returns-5 : tie.Need-returns-5
-returns-5 c = c .nothing5 .ensures ∙ ap only (c .before .counted .ensures) ∙ sym (ap partedOf (c .before .before .before .line2 .given .1))
+returns-5 c = c .counted .ensures ∙ sym (ap partedOf (c .before .before .line2 .given .1))
 
 returns-6 : tie.Need-returns-6
 returns-6 c = c .taken .ensures ∙ sym (ap partedOf (c .before .before .line3 .given .1))
 
 returns-7 : tie.Need-returns-7
-returns-7 c = c .nothing6 .ensures ∙ sym (ap partedOf (c .before .enum-told4 .given .1))
+returns-7 c = c .nothing5 .ensures ∙ sym (ap partedOf (c .before .enum-told4 .given .1))
 
 pub parted-spec : {M : Type 1} → statement M
 parted-spec =
@@ -95,11 +92,10 @@ parted-spec =
     nothing-requires-4
     enum-known-line-2
     counted-requires
-    nothing-requires-5
     enum-known-line-3
     taken-requires
     enum-told-4
-    nothing-requires-6
+    nothing-requires-5
     returns
     returns-2
     returns-3

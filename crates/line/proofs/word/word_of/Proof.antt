@@ -52,14 +52,17 @@ unfolding wordOf
 returns-11 c = sym (ap wordOf (c .if11 .taken))
 
 returns-12 : tie.Need-returns-12
-returns-12 c =
-    let seven = c .before .before .before .before in
-    let three = seven .before .before .before .before in
-    let one = three .before .before in
-    let s = one .before .args .letters in
-    word-none s (one .if1 .left) (three .before .if2 .left) (three .if3 .left) (seven .before .before .before .if4 .left) (seven .before .before .if5 .left)
-    (seven .before .if6 .left) (seven .if7 .left) (c .before .before .before .if8 .left) (c .before .before .if9 .left) (c .before .if10 .left)
-    (c .if11 .left)
+unfolding wordOf
+returns-12 c = sym (ap wordOf (c .if12 .taken))
+
+returns-13 : tie.Need-returns-13
+returns-13 c =
+    let eight = c .before .before .before .before in
+    let four = eight .before .before .before .before in
+    let s = four .before .before .before .before .args .letters in
+    word-none s (four .before .before .before .if1 .left) (four .before .before .if2 .left) (four .before .if3 .left) (four .if4 .left)
+    (eight .before .before .before .if5 .left) (eight .before .before .if6 .left) (eight .before .if7 .left) (eight .if8 .left)
+    (c .before .before .before .if9 .left) (c .before .before .if10 .left) (c .before .if11 .left) (c .if12 .left)
 
 pub word-of-spec : {M : Type 1} → statement M
 word-of-spec =
@@ -76,4 +79,5 @@ word-of-spec =
     returns-9
     returns-10
     returns-11
-    returns-12)
+    returns-12
+    returns-13)
