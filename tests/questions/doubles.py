@@ -64,6 +64,11 @@ def moved(random, number, most):
     return float_of(pattern_of(number) + random.randint(-most, most)) if number else number
 
 
+def outward(number):
+    """The next double away from 0."""
+    return float_of(pattern_of(number) + 1)
+
+
 def any_significand(random):
     """From 1 up to 2: of any bits, of few bits, or next to a power of two."""
     few = 1 + random.randrange(8) / 8

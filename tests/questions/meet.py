@@ -2,7 +2,7 @@
 
 from itertools import chain, combinations_with_replacement, permutations
 
-from questions.doubles import REACH, any_number, any_significand, float_of, moved, pattern_of
+from questions.doubles import REACH, any_number, any_significand, moved, outward, pattern_of
 from questions.lines import misspelled, with_damaged
 from questions.points import (
     ENDS, REFUSED, any_coordinate, any_point, asked_of, chopped, either_zero, grid_point, patterns, replaced, scaled,
@@ -11,11 +11,6 @@ from questions.points import (
 
 PLACES = 8
 LEAST, MOST = 2.0**-REACH, 2.0**REACH
-
-
-def outward(number):
-    """The next double away from 0."""
-    return float_of(pattern_of(number) + 1)
 
 
 def steps(start, step):

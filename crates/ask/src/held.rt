@@ -5,9 +5,14 @@ pub const HELD: usize = 10300;
 
 pub type Bytes = [u8; HELD];
 
-// Numbers of a question that are held: its doubles, and before them a plan's counts. (Two more than the longest question has, which is a plan's, so
-// that a list which is full is too long for every word.)
-pub const LIST: usize = 2236;
+// The most corner counts of a plan that are held, and the most doubles of its corners. (17, and those of 17 zones of 65 corners, are enough.)
+pub const COUNTS: usize = 20;
+
+pub const CORNERS: usize = 2212;
+
+// Numbers of a question that are held: its doubles, and before them a plan's counts. (Two more than a plan has with its point, which is the longest
+// question, so that a list which is full is too long for every word.)
+pub const LIST: usize = COUNTS + 2 + CORNERS + 2;
 
 pub type List = [f64; LIST];
 

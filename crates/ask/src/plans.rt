@@ -1,4 +1,6 @@
 // The answer of `crease`.
+use crate::held::CORNERS;
+use crate::held::COUNTS;
 use crate::reply;
 use crate::reply::Reply;
 use crate::sides::point_at;
@@ -8,11 +10,6 @@ use crease::answer::Plan;
 use crease::answer::ZoneRefusal;
 ghost use Prim.Native.Nat.{_≤_};
 ghost use lib.ListN.{length};
-
-// The most corner counts that are held, and the most doubles of corners. (17, and those of 17 zones of 65 corners, are enough.)
-const COUNTS: usize = 20;
-
-const CORNERS: usize = 2212;
 
 // A count is held as the double of which it is the pattern.
 fn put_counts(list: &[f64], counts: &mut [usize])

@@ -27,6 +27,6 @@ pub struct ZoneRefusal {
 
 pub enum Plan {
     Of(Claim),
-    // Refusal 1 or 5 at place 0, or 3 at the point's places 0 and 1; or as the first refused zone is refused, with its number.
+    // Refusal 1 or 5 at place 0, or 3 at the point's places 0 and 1; or as the first refused zone is refused, with that zone's number.
     Refused(ZoneRefusal),
 }

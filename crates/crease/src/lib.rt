@@ -3,7 +3,6 @@
 // No public function has a `requires`. What lies inside is private; the walk over the zones is about lists that are as long as counted.
 pub mod answer;
 mod claims;
-mod limit;
 mod plans;
 
 pub use plans::plan;

@@ -10,13 +10,15 @@ use crate::answer::Claim;
 use crate::answer::Plan;
 use crate::answer::ZoneRefusal;
 use crate::claims::with_zone;
-use crate::limit::MOST;
 use geometry::answer::Zone;
 use point::Point;
 use point::accepted;
 use refusal::NOT_ACCEPTED;
 use refusal::ODD_LENGTH;
 use refusal::TOO_MANY;
+
+// The most zones of a plan.
+const MOST: usize = 16;
 
 fn refused(number: u32, place: usize, zone: usize) -> Plan
     ensures { λ r. ⌜ r ≡ Plan.Refused (record { number = number; place = place; zone = zone }) ⌝ }

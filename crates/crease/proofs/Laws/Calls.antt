@@ -6,7 +6,7 @@ use mathlib.Core.List.{List, [], _∷_}
 use mathlib.Core.Logic.{_⊎_, inl, inr, _↔_}
 use Prim.Native.Nat.{ℕ, zero, suc, _≤_, _<_}
 use native.Mathlib.Omega.{arith}
-use lib.ListN.{length, getD, length-map}
+use lib.ListN.{length, getD, length-map, List·getD-eq-default}
 use lib.Ieee.{Float}
 use Rattle.whole.proofs.Laws.Order.{lt-or-le}
 use Rattle.ground.specs.Zone.{Lies, outside, border, inside, placeNumber}
@@ -29,7 +29,7 @@ use Rattle.crease.specs.declared.answer.Claim.the-variants.{Border, None
 use Rattle.crease.specs.declared.answer.ZoneRefusal.{ZoneRefusal}
 use Rattle.crease.specs.declared.answer.Plan.{Plan}
 use Rattle.crease.specs.declared.answer.Plan.the-variants.{Of, Refused}
-use Rattle.crease.proofs.Laws.Claims.{beyond, holds-once}
+use Rattle.crease.proofs.Laws.Claims.{within, holds-once}
 use Rattle.crease.proofs.Laws.Told.{length-zones, judged-passes, passes-judged, refused-found-plan, found-refused-plan}
 
 -- ---- which plans are refused: 1, 5, the point's 3, then as the first refused zone is, with its number
@@ -85,30 +85,22 @@ module _ (counts : List ℕ) (corners : List Float) (p : Point) (claim : Claim) 
   place-at (zone ∷ zones) zero l = refl
   place-at (zone ∷ zones) (suc k) l = place-at zones k (omega arith)
 
-  none-at : (zones : List (List Float)) (k : ℕ) → length zones ≤ k → getD zones k [] ≡ []
-  none-at [] k l = refl
-  none-at (zone ∷ zones) zero l = let z : ⊥ = omega arith in absurd z
-  none-at (zone ∷ zones) (suc k) l = none-at zones k (omega arith)
-
   -- no zone stands beyond the last: a list of no corners is refused
   answered-within : (k : ℕ) → Answered (zoneAt counts corners k) p → k < length (zonesOf counts corners)
   answered-within k (l, e) = elim (lt-or-le k (length (zonesOf counts corners))) [
     | inl h ↦ h
     | inr h ↦
-        let empty : zoneOf [] p ≡ answers l = ap (λ (z : List Float). zoneOf z p) (sym (none-at (zonesOf counts corners) k h)) ∙ e in
+        let empty : zoneOf [] p ≡ answers l = ap (λ (z : List Float). zoneOf z p) (sym (List·getD-eq-default (zonesOf counts corners) [] h)) ∙ e in
         no-refusal (sym (found-refused [] p 4 0 (few refl (omega arith))) ∙ empty)
   ]
 
   place-told : (k : ℕ) (l : Lies) → zoneOf (zoneAt counts corners k) p ≡ answers l → getD places k outside ≡ l
   place-told k l e = place-at (zonesOf counts corners) k (answered-within k (l, e)) ∙ zone-answered (zoneAt counts corners k) p l e .place
 
-  told-place : (k : ℕ) → 0 < placeNumber (getD places k outside) → zoneOf (zoneAt counts corners k) p ≡ answers (getD places k outside)
-  told-place k some = elim (lt-or-le k (length (zonesOf counts corners))) [
-    | inl h ↦ let (l, e) = told .2 k h in e ∙ ap answers (sym (place-told k l e))
-    | inr h ↦
-        let none = beyond places k (omega (arith, length-map (zonesOf counts corners) (λ zone. placeIn zone p))) in
-        let z : ⊥ = omega (arith, ap placeNumber none) in absurd z
-  ]
+  told-place : (k m : ℕ) → placeNumber (getD places k outside) ≡ m → 0 < m → zoneOf (zoneAt counts corners k) p ≡ answers (getD places k outside)
+  told-place k m h some =
+      let (l, e) = told .2 k (omega (arith, within places k m h some, length-map (zonesOf counts corners) (λ zone. placeIn zone p))) in
+      e ∙ ap answers (sym (place-told k l e))
 
   is-border : (l : Lies) → placeNumber l ≡ 1 → (e : ℕ) × (l ≡ border e)
   is-border outside e = never (cc)
@@ -124,7 +116,7 @@ module _ (counts : List ℕ) (corners : List Float) (p : Point) (claim : Claim) 
   pub plan-on : (k : ℕ) → On places k ↔ ((edge : ℕ) × ZoneSays (zoneAt counts corners k) p (At (PlaceBorder edge)))
   unfolding zoneSaid placeSaid
   plan-on k = (
-    λ on. let (edge, e) = is-border (getD places k outside) on in (edge, ap answers (sym e) ∙ sym (told-place k (omega arith))),
+    λ on. let (edge, e) = is-border (getD places k outside) on in (edge, ap answers (sym e) ∙ sym (told-place k 1 on (omega arith))),
     λ (edge, zone). ap placeNumber (place-told k (border edge) (sym zone)),
   )
 
@@ -132,7 +124,7 @@ module _ (counts : List ℕ) (corners : List Float) (p : Point) (claim : Claim) 
   pub plan-in : (k : ℕ) → In places k ↔ ZoneSays (zoneAt counts corners k) p (At PlaceInside)
   unfolding zoneSaid placeSaid
   plan-in k = (
-    λ has. ap answers (sym (is-inside (getD places k outside) has)) ∙ sym (told-place k (omega arith)),
+    λ has. ap answers (sym (is-inside (getD places k outside) has)) ∙ sym (told-place k 2 has (omega arith)),
     λ zone. ap placeNumber (place-told k inside (sym zone)),
   )
 

@@ -6,7 +6,7 @@ use mathlib.Core.Logic.{inl, inr}
 use Prim.Native.Nat.{ℕ, zero, suc, _+_, _≤_, _<_}
 use native.Mathlib.Nat.{zero-add, add-zero, eq-or-lt-of-le, le-antisymm}
 use native.Mathlib.Omega.{arith}
-use lib.ListN.{length, getD}
+use lib.ListN.{length, getD, List·getD-eq-default}
 use Rattle.whole.proofs.Laws.Order.{lt-or-le}
 use Rattle.ground.specs.Zone.{Lies, outside, border, inside, placeNumber}
 use Rattle.crease.specs.Claim.{On, Off, Holds}
@@ -65,15 +65,10 @@ all-zones at (place ∷ places) n claim same h =
 
 -- ---- the claim of all zones holds
 -- beyond the last zone stands `outside`
-pub beyond : (places : List Lies) (i : ℕ) → length places ≤ i → getD places i outside ≡ outside
-beyond [] i l = refl
-beyond (place ∷ places) zero l = let z : ⊥ = omega arith in absurd z
-beyond (place ∷ places) (suc i) l = beyond places i (omega arith)
-
-within : (places : List Lies) (i m : ℕ) → placeNumber (getD places i outside) ≡ m → 0 < m → i < length places
+pub within : (places : List Lies) (i m : ℕ) → placeNumber (getD places i outside) ≡ m → 0 < m → i < length places
 within places i m e some = elim (lt-or-le i (length places)) [
   | inl l ↦ l
-  | inr l ↦ let z : ⊥ = omega (arith, ap placeNumber (beyond places i l)) in absurd z
+  | inr l ↦ let z : ⊥ = omega (arith, ap placeNumber (List·getD-eq-default places outside l)) in absurd z
 ]
 
 module _ (places : List Lies) where
