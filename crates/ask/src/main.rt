@@ -1,4 +1,6 @@
 // The line tool: reads questions from standard input, one to a line, and writes one answer line for each, in order, until the input ends.
+#![tactic(auto)]
+
 mod answer;
 mod held;
 mod meetings;

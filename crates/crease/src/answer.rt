@@ -1,14 +1,14 @@
 // Every answer of this crate. The zones of a plan count from 0.
 
 // Two zones, the lower one first.
-#[derive(Drop)]
+#[derive(Clone, Copy)]
 pub struct Pair {
     pub first: usize,
     pub second: usize,
 }
 
 // Whose a release is.
-#[derive(Drop)]
+#[derive(Clone, Copy)]
 pub enum Claim {
     // On the border of this zone, and of no lower one.
     Border(usize),
@@ -21,14 +21,14 @@ pub enum Claim {
 }
 
 // A refusal with the number of the zone that it is about, 0 where it is about none.
-#[derive(Drop)]
+#[derive(Clone, Copy)]
 pub struct ZoneRefusal {
     pub number: u32,
     pub place: usize,
     pub zone: usize,
 }
 
-#[derive(Drop)]
+#[derive(Clone, Copy)]
 pub enum Plan {
     Of(Claim),
     // Refusal 1 or 5 at place 0, or 3 at the point's places 0 and 1; or as the first refused zone is refused, with that zone's number.

@@ -9,7 +9,7 @@ use crate::roundoff::roundoff;
 use point::Point;
 
 // A rounded product, and what it lacks of the exact one.
-#[derive(Drop)]
+#[derive(Clone, Copy)]
 pub struct Product {
     pub rounded: f64,
     pub roundoff: f64,

@@ -24,7 +24,7 @@ const UNIT_PLACE: u64 = 1074;
 const NOTHING: f64 = 0.0;
 
 // A magnitude of significand * 2^exponent units.
-#[derive(Drop)]
+#[derive(Clone, Copy)]
 struct Magnitude {
     significand: u64,
     exponent: u64,

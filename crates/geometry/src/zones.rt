@@ -80,7 +80,7 @@ fn crosses_at(corners: &[f64], k: usize, j: usize, p: Point) -> Crossing
 }
 
 // How many edges count upward, and how many downward.
-#[derive(Drop)]
+#[derive(Clone, Copy)]
 struct Counts {
     ups: usize,
     downs: usize,
@@ -144,7 +144,7 @@ fn place(corners: &[f64], n: usize, p: Point) -> Place
 }
 
 // What is wrong with the coordinates.
-#[derive(Drop)]
+#[derive(Clone, Copy)]
 enum Fault {
     None,
     At(Refusal),

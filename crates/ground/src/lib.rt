@@ -1,1 +1,2 @@
 // The rules over whole numbers: points, sides, edges, the zone; points with heights. Definitions and laws; no function.
+#![tactic(auto)]

@@ -1,7 +1,7 @@
 // A line as far as it was read, what was found in it on the way, and what it asks.
 
 // The words that a question begins with.
-#[derive(Drop)]
+#[derive(Clone, Copy)]
 pub enum Word {
     Apart,
     Run,
@@ -17,7 +17,7 @@ pub enum Word {
     Read,
 }
 
-#[derive(Drop)]
+#[derive(Clone, Copy)]
 pub enum Line {
     // Nothing of it was read.
     Empty,
@@ -33,7 +33,7 @@ pub enum Line {
 }
 
 // The count that is being read.
-#[derive(Drop)]
+#[derive(Clone, Copy)]
 pub struct Counting {
     pub word: Word,
     // Whether a digit was read.
@@ -46,7 +46,7 @@ pub struct Counting {
 }
 
 // The double that is being read, by the digits of its pattern.
-#[derive(Drop)]
+#[derive(Clone, Copy)]
 pub struct Asking {
     pub word: Word,
     // The first count; 0 where there is none.
@@ -56,7 +56,7 @@ pub struct Asking {
 }
 
 // The bytes of a file that are being read.
-#[derive(Drop)]
+#[derive(Clone, Copy)]
 pub struct Reading {
     pub room: u32,
     // Whether a digit was read.
@@ -67,7 +67,7 @@ pub struct Reading {
 }
 
 // What ends with a byte of a line.
-#[derive(Drop)]
+#[derive(Clone, Copy)]
 pub enum Found {
     Nothing,
     // The pattern of a double, or a count of a plan.
@@ -77,21 +77,21 @@ pub enum Found {
 }
 
 // A line with one byte more.
-#[derive(Drop)]
+#[derive(Clone, Copy)]
 pub struct Step {
     pub line: Line,
     pub found: Found,
 }
 
 // A word and its first count; 0 where there is none.
-#[derive(Drop)]
+#[derive(Clone, Copy)]
 pub struct Question {
     pub word: Word,
     pub count: u32,
 }
 
 // What a whole line asks, besides what was found in it.
-#[derive(Drop)]
+#[derive(Clone, Copy)]
 pub enum Asked {
     // Nothing: it is empty, or was copied.
     Nothing,
@@ -101,7 +101,7 @@ pub enum Asked {
     OfFile(u32),
 }
 
-#[derive(Drop)]
+#[derive(Clone, Copy)]
 pub struct End {
     pub asked: Asked,
     pub found: Found,

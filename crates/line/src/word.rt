@@ -5,14 +5,14 @@ ghost use Rattle.line.specs.Word.{word_of, form_of};
 
 use crate::answer::{Line, Word};
 
-#[derive(Drop)]
+#[derive(Clone, Copy)]
 pub enum Known {
     Word(Word),
     None,
 }
 
 // What follows a word: doubles; a count and doubles; a count, so many counts and doubles; or a count and a file's bytes.
-#[derive(Drop)]
+#[derive(Clone, Copy)]
 pub enum Form {
     Doubles,
     Counted,

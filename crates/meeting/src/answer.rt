@@ -3,13 +3,13 @@ use point::Point;
 use refusal::Refusal;
 
 // The straight way from one point to another. The two may be equal.
-#[derive(Drop)]
+#[derive(Clone, Copy)]
 pub struct Piece {
     pub from: Point,
     pub to: Point,
 }
 
-#[derive(Drop)]
+#[derive(Clone, Copy)]
 pub enum Meeting {
     // No point is shared.
     Apart,
@@ -21,7 +21,7 @@ pub enum Meeting {
     Overlapping,
 }
 
-#[derive(Drop)]
+#[derive(Clone, Copy)]
 pub enum Meet {
     Of(Meeting),
     // Refusal 3, place 0 to 7: x and y of the path's two points, then of the crease's.

@@ -4,7 +4,7 @@ ghost use Rattle.std.specs.Float.Ieee.{lt};
 ghost use Rattle.meeting.specs.Parts.{lesser_of, greater_of, common_of, is_in_by};
 
 // From the least to the most, which count; empty where the most is less.
-#[derive(Drop)]
+#[derive(Clone, Copy)]
 pub struct Range {
     pub least: f64,
     pub most: f64,

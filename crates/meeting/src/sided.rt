@@ -20,7 +20,7 @@ pub fn side_of(a: Piece, p: Point) -> Sign
 }
 
 // Two points by a line.
-#[derive(Drop)]
+#[derive(Clone, Copy)]
 pub enum Sides {
     // Both beside it, on one side.
     OneSide,

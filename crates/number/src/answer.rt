@@ -2,13 +2,13 @@
 use refusal::Refusal;
 
 // A number, and the offset after it.
-#[derive(Drop)]
+#[derive(Clone, Copy)]
 pub struct Number {
     pub value: u64,
     pub next: usize,
 }
 
-#[derive(Drop)]
+#[derive(Clone, Copy)]
 pub enum Numeral {
     // The number that begins at the offset.
     Whole(Number),

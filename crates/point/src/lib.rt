@@ -1,18 +1,20 @@
 // The coordinates that geometry and tracks accept, and the point.
+#![tactic(auto)]
+
 ghost use Rattle.std.specs.Prelude.{◌≡◌};
 ghost use Rattle.point.specs.Accepted.{magnitude_of, AcceptedSays};
 ghost use Rattle.point.specs.High.{AcceptedHighSays};
 ghost use Rattle.point.specs.Parts.{within_of};
 
 // A point of the ground plan.
-#[derive(Drop)]
+#[derive(Clone, Copy)]
 pub struct Point {
     pub x: f64,
     pub y: f64,
 }
 
 // A point with a height.
-#[derive(Drop)]
+#[derive(Clone, Copy)]
 pub struct HighPoint {
     pub x: f64,
     pub y: f64,

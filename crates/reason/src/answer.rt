@@ -2,7 +2,7 @@
 use refusal::Refusal;
 
 // The first edge that has the point.
-#[derive(Drop)]
+#[derive(Clone, Copy)]
 pub struct Met {
     pub edge: usize,
     // Whether the point is a corner of it: equal in value to one of its two ends.
@@ -10,7 +10,7 @@ pub struct Met {
 }
 
 // The edges that count.
-#[derive(Drop)]
+#[derive(Clone, Copy)]
 pub struct Counted {
     // Those that count upward less those that count downward.
     pub total: i64,
@@ -18,7 +18,7 @@ pub struct Counted {
     pub entries: usize,
 }
 
-#[derive(Drop)]
+#[derive(Clone, Copy)]
 pub enum Why {
     Border(Met),
     Inside(Counted),

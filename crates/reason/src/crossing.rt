@@ -12,7 +12,7 @@ use point::Point;
 use sum::answer::Sign;
 
 // How an edge counts.
-#[derive(Drop)]
+#[derive(Clone, Copy)]
 pub enum Crossing {
     None,
     Up,

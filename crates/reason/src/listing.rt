@@ -30,7 +30,7 @@ pub fn next_of(n: usize, k: usize) -> usize
 }
 
 // How many edges count upward, and how many downward.
-#[derive(Drop)]
+#[derive(Clone, Copy)]
 pub struct Counts {
     pub ups: usize,
     pub downs: usize,

@@ -1,7 +1,8 @@
 // How every public call of the project refuses: docs/RULES.md, sections Refusals and Order.
+#![tactic(auto)]
 
 // A refusal: its number in the table, and its place. The call that gives it writes nothing.
-#[derive(Drop)]
+#[derive(Clone, Copy)]
 pub struct Refusal {
     pub number: u32,
     pub place: usize,

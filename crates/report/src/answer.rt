@@ -1,7 +1,7 @@
 // Every answer of this crate.
 use refusal::Refusal;
 
-#[derive(Drop)]
+#[derive(Clone, Copy)]
 pub enum Judged {
     // The number of corners, 3 to 64.
     Corners(usize),
@@ -9,7 +9,7 @@ pub enum Judged {
     Refused(Refusal),
 }
 
-#[derive(Drop)]
+#[derive(Clone, Copy)]
 pub enum Report {
     // The number of releases, whose codes stand at the start of the lent bytes: 0 outside, 1 border, 2 inside.
     Releases(usize),

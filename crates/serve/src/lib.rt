@@ -1,4 +1,6 @@
 // The desk's input and output: opens and reads its two files, and prints what they say: the places, or why they are so.
+#![tactic(auto)]
+
 mod files;
 mod points;
 mod reasons;

@@ -9,7 +9,7 @@ use system::files::Held;
 use track::answer::Reading;
 use track::limit::COORDINATES;
 
-#[derive(Drop)]
+#[derive(Clone, Copy)]
 pub enum Listed {
     // How many points stand at the start of the list.
     Points(usize),

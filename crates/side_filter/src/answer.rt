@@ -1,5 +1,5 @@
 // What the first two stages say.
-#[derive(Drop)]
+#[derive(Clone, Copy)]
 pub enum Early {
     // The three points lie on a line that runs along an axis.
     Level,

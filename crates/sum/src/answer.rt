@@ -1,7 +1,7 @@
 // Every answer of this crate.
 use refusal::Refusal;
 
-#[derive(Drop)]
+#[derive(Clone, Copy)]
 pub enum Sign {
     Minus,
     Zero,
@@ -9,27 +9,27 @@ pub enum Sign {
 }
 
 // What the rule says of a list: its sign, or that it takes another step.
-#[derive(Drop)]
+#[derive(Clone, Copy)]
 pub enum Verdict {
     Decided(Sign),
     Undecided,
 }
 
 // A run: the verdict on the list that it leaves, and the steps that it took.
-#[derive(Drop)]
+#[derive(Clone, Copy)]
 pub struct Ran {
     pub verdict: Verdict,
     pub steps: u32,
 }
 
-#[derive(Drop)]
+#[derive(Clone, Copy)]
 pub enum Run {
     Done(Ran),
     // Refusal 1, or 2 at the first entry that is infinite or not a number.
     Refused(Refusal),
 }
 
-#[derive(Drop)]
+#[derive(Clone, Copy)]
 pub enum Ceiling {
     // No run on the list takes more steps.
     Steps(u32),
@@ -37,7 +37,7 @@ pub enum Ceiling {
     Refused(Refusal),
 }
 
-#[derive(Drop)]
+#[derive(Clone, Copy)]
 pub enum Plain {
     Signed(Sign),
     // As for a run.

@@ -9,7 +9,7 @@ use refusal::{NOT_FINITE, Refusal, TOO_MANY};
 pub const LIMIT: usize = 1024;
 
 // What is wrong with a list.
-#[derive(Drop)]
+#[derive(Clone, Copy)]
 pub enum Fault {
     None,
     At(Refusal),

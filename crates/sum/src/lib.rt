@@ -2,6 +2,8 @@
 //
 // No public function has a `requires`. Each refuses a list of more than 1,024 entries (1), then one with an infinity or a NaN (2),
 // and a refused call writes nothing.
+#![tactic(auto)]
+
 pub mod answer;
 mod fault;
 mod look;

@@ -9,7 +9,7 @@ use crate::answer::{Sign, Verdict};
 
 // The extremes of a list: the greatest positive entry a, at the lowest index, among m positive entries; the most negative one b likewise,
 // among n. Where there is none the entry is 0.0, and its index the list's length.
-#[derive(Drop)]
+#[derive(Clone, Copy)]
 pub struct Tally {
     pub a: f64,
     pub at: usize,
@@ -20,7 +20,7 @@ pub struct Tally {
 }
 
 // What a look finds.
-#[derive(Drop)]
+#[derive(Clone, Copy)]
 pub enum Look {
     Neither,
     // Only positive entries, and the greatest.

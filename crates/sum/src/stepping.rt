@@ -7,7 +7,7 @@ ghost use Rattle.sum.specs.Tally.{Stepping};
 use crate::look::Tally;
 
 // A rounded sum and its roundoff.
-#[derive(Drop)]
+#[derive(Clone, Copy)]
 pub struct Pair {
     pub x: f64,
     pub y: f64,

@@ -2,7 +2,7 @@
 use crate::read;
 
 // What was read of a file.
-#[derive(Drop)]
+#[derive(Clone, Copy)]
 pub enum Held {
     // How many bytes stand at the start of the buffer.
     Bytes(usize),

@@ -1,4 +1,6 @@
 // The system's reads and writes, for all programs: what no contract can speak of, in one place.
+#![tactic(auto)]
+
 pub mod files;
 
 use libc::{EINTR, STDOUT_FILENO};

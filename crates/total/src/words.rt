@@ -10,7 +10,7 @@ use double::answer::Parts;
 pub const WORDS: usize = 33;
 
 // A word, and what goes over to the next: a carry or a borrow.
-#[derive(Drop)]
+#[derive(Clone, Copy)]
 struct Word {
     word: u64,
     over: u64,

@@ -1,7 +1,7 @@
 // Every answer of this crate's public calls.
 use refusal::Refusal;
 
-#[derive(Drop)]
+#[derive(Clone, Copy)]
 pub enum Writing {
     // The length of the file, whose bytes stand at the start of the lent bytes.
     Length(usize),
@@ -9,7 +9,7 @@ pub enum Writing {
     Refused(Refusal),
 }
 
-#[derive(Drop)]
+#[derive(Clone, Copy)]
 pub enum Reading {
     // The number of points, whose coordinates stand at the start of the lent list.
     Points(usize),

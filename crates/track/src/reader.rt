@@ -13,7 +13,7 @@ use number::answer::{Number, Numeral};
 use number::number_at;
 use refusal::{BYTES_AFTER, NO_ROOM, Refusal, TOO_MANY};
 
-#[derive(Drop)]
+#[derive(Clone, Copy)]
 enum Decoded {
     // Every coordinate stands in the list.
     Whole,

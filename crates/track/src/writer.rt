@@ -13,7 +13,7 @@ use coordinate::stored;
 use number::number_len;
 use refusal::{NO_ROOM, NOT_ACCEPTED, ODD_LENGTH, Refusal, TOO_MANY};
 
-#[derive(Drop)]
+#[derive(Clone, Copy)]
 enum Measured {
     // How many bytes all coordinates take.
     Length(usize),
