@@ -3,19 +3,17 @@ use mathlib.Core.Path.{◌≡◌, refl}
 use mathlib.Core.Bool.{false}
 use lib.Ieee.{binary64, inf, neg, div, of_bits}
 use Rattle.sum.proofs.Laws.Refused.{finite_below, finite_not_below}
-use Rattle.sum.proofs.fault.is_finite.Statement.{statement}
-use Rattle.sum.proofs.fault.is_finite.Tie as tie
+use Rattle.sum.proofs.fault.is_finite.Goals as goal
 
 infinite : div binary64 (of_bits binary64 0x3FF0_0000_0000_0000) (of_bits binary64 0) ≡ inf false
 unfolding div of_bits
 infinite = refl
 
-returns : tie.Need-returns
+pub returns-then-x-infinity : goal.returns-then-x-infinity
 unfolding neg
-returns c = rw infinite (finite_below _ (rw infinite at c.if1.true))
+returns-then-x-infinity c =
+    rw infinite (finite_below _ (rw infinite at c.if-x-infinity.true))
 
-returns-2 : tie.Need-returns-2
-returns-2 c = finite_not_below _ (rw infinite at c.if1.false)
-
-pub is-finite-spec : {M : Type 1} → statement M
-is-finite-spec = tie.close (tie.spec returns returns-2)
+pub returns : goal.returns
+returns c =
+    finite_not_below _ (rw infinite at c.if-x-infinity.false)

@@ -1,0 +1,35 @@
+-- `sum::fault::first_fault` meets its contract. The loop's invariant: what is found from index i on is what is found in the whole list.
+-- Assumes nothing.
+use Prim.Native.Nat.{◌≤◌, ◌-◌}
+use mathlib.Core.Path.{◌≡◌, sym, ◌∙◌}
+use lib.ListN.{length, drop}
+use borrow.Author.Rules.{rules}
+use borrow.Author.Tests.{not-true, not-false}
+use Rattle.sum.specs.Refused.{checked_from}
+use Rattle.sum.specs.Parts.{fault_of, found}
+use Rattle.refusal.proofs.Laws.Search.{passing_here, passing_later, passing_end}
+use Rattle.sum.proofs.Laws.Refused.{checked_long, checked_short}
+use Rattle.sum.proofs.fault.first_fault.Goals as goal
+
+pub returns-then-list-gt-LIMIT : goal.returns-then-list-gt-LIMIT
+unfolding found
+returns-then-list-gt-LIMIT c =
+    sym (checked_long _ tt c.if-list-gt-LIMIT.true)
+
+pub loop-i-init : goal.loop-i-init
+loop-i-init c =
+    (search rules, sym (checked_short _ tt c.if-list-gt-LIMIT.false))
+
+pub returns-then-not-is_finite : goal.returns-then-not-is_finite
+unfolding found
+returns-then-not-is_finite c =
+    sym (passing_here _ _ _ _ tt _ _ c.loop-i-test.true (sym c.is_finite.ensures ∙ not-true _ c.if-not-is_finite.true)) ∙ c.loop-i.invariant.1
+
+pub loop-i-preserved : goal.loop-i-preserved
+loop-i-preserved c =
+    (search rules, sym (passing_later _ _ _ _ tt _ _ c.loop-i-test.true (sym c.is_finite.ensures ∙ not-false _ c.if-not-is_finite.false)) ∙ c.loop-i.invariant.1)
+
+pub returns : goal.returns
+unfolding found
+returns c =
+    sym (passing_end _ _ _ tt _ _ c.loop-i-test.false) ∙ c.loop-i.invariant.1

@@ -1,0 +1,37 @@
+-- `sum::words::sign_of` meets its contract.
+use Rattle.total.proofs.Laws.Words.{Below}
+use Rattle.sum.proofs.Laws.Words.{value_next, held_below, held_minus, held_plus, held_zero}
+use mathlib.Core.Path.{◌∙◌}
+use Prim.Native.Nat.{◌-◌, ◌*◌, ◌^◌, ◌≤◌}
+use mathlib.Core.Path.{◌≡◌}
+use lib.ListN.{drop}
+use native.Mathlib.Omega.{arith}
+use borrow.Author.Rules.{rules}
+use Rattle.total.specs.Words.{base, count, value_of}
+use Rattle.sum.proofs.words.sign_of.Goals as goal
+
+-- TODO in-range : (c : tie.After-shared-slice-known invariant-loop decreases-loop) → Below base c.before.args.words.now
+-- in-range c k h = (c.shared-slice-known.given k).fits
+
+pub returns-then-words-ge-TOP : goal.returns-then-words-ge-TOP
+returns-then-words-ge-TOP c =
+    let range = in-range c in
+    record { below = held_below _ c.requires range; sign_is = held_minus _ c.requires range c.if-words-ge-TOP.true }
+
+pub returns-then-words-i-ne0 : goal.returns-then-words-i-ne0
+returns-then-words-i-ne0 c =
+    record {
+      below = held_below _ c.requires (in-range c);
+      sign_is = held_plus _ c.requires (in-range c) c.if-words-ge-TOP.false _ c.loop-i.invariant.1 c.loop-i-test.true c.if-words-i-ne0.true;
+    }
+
+pub loop-i-preserved : goal.loop-i-preserved
+loop-i-preserved c =
+    (omega arith, c.loop-i.invariant.1 ∙ value_next base _ _ c.loop-i-test.true c.if-words-i-ne0.false)
+
+pub returns : goal.returns
+returns c =
+    record {
+      below = held_below _ c.requires (in-range c);
+      sign_is = held_zero _ c.requires (in-range c) c.if-words-ge-TOP.false _ c.loop-i.invariant.1 c.loop-i-test.false;
+    }
