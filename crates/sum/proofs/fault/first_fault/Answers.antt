@@ -23,11 +23,11 @@ loop-i-init c =
 pub returns-then-not-is_finite : goal.returns-then-not-is_finite
 unfolding found
 returns-then-not-is_finite c =
-    sym (passing_here _ _ _ _ tt _ _ c.loop-i-test.true (sym c.is_finite.ensures ∙ not-true _ c.if-not-is_finite.true)) ∙ c.loop-i.invariant.1
+    sym (passing_here _ _ _ _ tt _ _ c.loop-i-test.true (sym c.is_finite.ensures ∙ c.if-not-is_finite.true)) ∙ c.loop-i.invariant.1
 
 pub loop-i-preserved : goal.loop-i-preserved
 loop-i-preserved c =
-    (search rules, sym (passing_later _ _ _ _ tt _ _ c.loop-i-test.true (sym c.is_finite.ensures ∙ not-false _ c.if-not-is_finite.false)) ∙ c.loop-i.invariant.1)
+    (search rules, sym (passing_later _ _ _ _ tt _ _ c.loop-i-test.true (sym c.is_finite.ensures ∙ c.if-not-is_finite.false)) ∙ c.loop-i.invariant.1)
 
 pub returns : goal.returns
 unfolding found

@@ -37,18 +37,18 @@ pub returns-then-not-add : goal.returns-then-not-add
 unfolding plain_said
 returns-then-not-add c =
     let here = c.loop-i in
-    let none = add_finite _ _ _ _ here.invariant.0 c.add.ensures ∙ not-true _ c.if-not-add.true in
+    let none = add_finite _ _ _ _ here.invariant.0 c.add.ensures ∙ c.if-not-add.true in
     sym (passing_here _ _ _ _ _ _ _ c.loop-i-test.true none) ∙ here.invariant.2
 
 pub loop-i-preserved : goal.loop-i-preserved
 loop-i-preserved c =
     let here = c.loop-i in
-    let done = not-false _ c.if-not-add.false in
+    let done = c.if-not-add.false in
     let there = add_finite _ _ _ _ here.invariant.0 c.add.ensures ∙ done in
     let entry : Real binary64 (get_or c.args.list.now here.i nan) =
     record { fin = subst T (sym there) tt; fit = c.shared_slice_known-1.given here.i } in
     let changes = add_changes _ _ _ _ here.invariant.0 c.add.ensures done entry in (
-      c.add.auto.0 ∙ here.invariant.0,
+      c.add.auto.total ∙ here.invariant.0,
       omega arith,
       sym (passing_later _ _ _ _ _ _ _ c.loop-i-test.true there) ∙ here.invariant.2,
       held_next _ _ _ _ c.loop-i-test.true entry here.invariant.0 changes here.invariant.3,

@@ -12,22 +12,22 @@ loop-list-init c =
 
 pub tallied-t-requires : goal.tallied-t-requires
 tallied-t-requires c =
-    c.loop.invariant.short
+    c.loop-list.invariant.short
 
 pub returns-in_default : goal.returns-in_default
 returns-in_default c =
     let v = verdict_is _ c.tallied-t.ensures c.look_at.ensures c.judged-v.ensures in
-    going_decided c.loop.invariant v c.in_default.is
+    going_decided c.loop-list.invariant v c.in_default.is
 
 pub returns-then-budget-steps : goal.returns-then-budget-steps
 returns-then-budget-steps c =
     let v = verdict_is _ c.tallied-t.ensures c.look_at.ensures c.judged-v.ensures in
-    going_out c.loop.invariant v c.if-budget-steps.true
+    going_out c.loop-list.invariant v c.if-budget-steps.true
 
 pub step-requires : goal.step-requires
 step-requires c =
     let v = verdict_is _ c.tallied-t.ensures c.look_at.ensures c.judged-v.ensures in
-    going_stepping c.loop.invariant c.tallied-t.ensures (sym v ∙ c.in-Undecided.is)
+    going_stepping c.loop-list.invariant c.tallied-t.ensures (sym v ∙ c.in-Undecided.is)
 
 pub overflow_add-steps : goal.overflow_add-steps
 overflow_add-steps c =
@@ -41,4 +41,4 @@ pub loop-list-preserved : goal.loop-list-preserved
 loop-list-preserved c =
     let v = verdict_is _ c.tallied-t.ensures c.look_at.ensures c.judged-v.ensures in
     let u = sym v ∙ c.in-Undecided.is in
-    rw c.step.ensures (going_step c.loop.invariant u c.if-budget-steps.false)
+    rw c.step.ensures (going_step c.loop-list.invariant u c.if-budget-steps.false)

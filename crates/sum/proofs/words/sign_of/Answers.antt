@@ -10,19 +10,18 @@ use borrow.Author.Rules.{rules}
 use Rattle.total.specs.Words.{base, count, value_of}
 use Rattle.sum.proofs.words.sign_of.Goals as goal
 
--- TODO in-range : (c : tie.After-shared-slice-known invariant-loop decreases-loop) → Below base c.before.args.words.now
--- in-range c k h = (c.shared-slice-known.given k).fits
-
 pub returns-then-words-ge-TOP : goal.returns-then-words-ge-TOP
 returns-then-words-ge-TOP c =
-    let range = in-range c in
+    let in-range : Below base c.args.words.now = (λ k h. (c.type_inv.words k).fits) in
+    let range = in-range in
     record { below = held_below _ c.requires range; sign_is = held_minus _ c.requires range c.if-words-ge-TOP.true }
 
 pub returns-then-words-i-ne0 : goal.returns-then-words-i-ne0
 returns-then-words-i-ne0 c =
+    let in-range : Below base c.args.words.now = (λ k h. (c.shared_slice_known-1.given k).fits) in
     record {
-      below = held_below _ c.requires (in-range c);
-      sign_is = held_plus _ c.requires (in-range c) c.if-words-ge-TOP.false _ c.loop-i.invariant.1 c.loop-i-test.true c.if-words-i-ne0.true;
+      below = held_below _ c.requires in-range;
+      sign_is = held_plus _ c.requires in-range c.if-words-ge-TOP.false _ c.loop-i.invariant.1 c.loop-i-test.true c.if-words-i-ne0.true;
     }
 
 pub loop-i-preserved : goal.loop-i-preserved
@@ -31,7 +30,8 @@ loop-i-preserved c =
 
 pub returns : goal.returns
 returns c =
+    let in-range : Below base c.args.words.now = (λ k h. (c.type_inv.words k).fits) in
     record {
-      below = held_below _ c.requires (in-range c);
-      sign_is = held_zero _ c.requires (in-range c) c.if-words-ge-TOP.false _ c.loop-i.invariant.1 c.loop-i-test.false;
+      below = held_below _ c.requires in-range;
+      sign_is = held_zero _ c.requires in-range c.if-words-ge-TOP.false _ c.loop-i.invariant.1 c.loop-i-test.false;
     }
