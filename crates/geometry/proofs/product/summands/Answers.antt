@@ -1,0 +1,71 @@
+-- `product::summands` meets its contract: coordinates of accepted points, and their negations, may be multiplied. Assumes nothing.
+use mathlib.Core.Path.{◌≡◌, refl, sym, subst}
+use mathlib.Core.Bool.{Bool, true}
+use mathlib.Core.List.{List, ◌∷◌, ◌++◌}
+use lib.Dec.{T, lit≤}
+use lib.Ieee.{Float}
+use Rattle.double.proofs.Laws.Negated.{sized_neg}
+use Rattle.double.proofs.Laws.Roundoff.{factors_reach}
+use Rattle.point.specs.Accepted.{reach}
+use Rattle.point.proofs.Laws.Within.{Within, accepted_within_lem}
+use Rattle.geometry.specs.Product.{pair_of, summands_of}
+use Rattle.geometry.specs.Parts.{ExactProduct}
+use Rattle.geometry.specs.declared.product.Product.{Product}
+use Rattle.geometry.proofs.product.summands.Goals as goal
+
+-- what owning a point tells: the format holds its coordinates
+held : {b : Bool} → b ≡ true → T b
+held e = subst T (sym e) tt
+
+-- one entry after the other
+joined : {a b : Float} {l m : List Float} → a ≡ b → l ≡ m → a ∷ l ≡ b ∷ m
+joined e es = cc
+
+pair : (x y : Float) (r : Product) {l m : List Float} → ExactProduct x y r → l ≡ m → r.rounded ∷ r.roundoff ∷ l ≡ pair_of x y ++ m
+pair x y r e es = joined e.rounded (joined e.roundoff es)
+
+pub exact_product-a-requires : goal.exact_product-a-requires
+exact_product-a-requires c =
+    let q-within : Within reach c.args.q = accepted_within_lem c.args.q (held c.well_formed.1.0.1.1.0.1) (held c.well_formed.1.0.1.1.1.0.1) c.requires.1 in
+    let r-within : Within reach c.args.r = accepted_within_lem c.args.r (held c.well_formed.1.1.0.1.1.0.1) (held c.well_formed.1.1.0.1.1.1.0.1) c.requires.2 in
+    factors_reach reach (lit≤ tt) q-within.x r-within.y
+
+pub exact_product-b-requires : goal.exact_product-b-requires
+exact_product-b-requires c =
+    let q-within : Within reach c.args.q = accepted_within_lem c.args.q (held c.well_formed.1.0.1.1.0.1) (held c.well_formed.1.0.1.1.1.0.1) c.requires.1 in
+    let p-within : Within reach c.args.p = accepted_within_lem c.args.p (held c.well_formed.0.1.1.0.1) (held c.well_formed.0.1.1.1.0.1) c.requires.0 in
+    factors_reach reach (lit≤ tt) (sized_neg q-within.x) p-within.y
+
+pub exact_product-c-requires : goal.exact_product-c-requires
+exact_product-c-requires c =
+    let p-within : Within reach c.args.p = accepted_within_lem c.args.p (held c.well_formed.0.1.1.0.1) (held c.well_formed.0.1.1.1.0.1) c.requires.0 in
+    let r-within : Within reach c.args.r = accepted_within_lem c.args.r (held c.well_formed.1.1.0.1.1.0.1) (held c.well_formed.1.1.0.1.1.1.0.1) c.requires.2 in
+    factors_reach reach (lit≤ tt) (sized_neg p-within.x) r-within.y
+
+pub exact_product-d-requires : goal.exact_product-d-requires
+exact_product-d-requires c =
+    let q-within : Within reach c.args.q = accepted_within_lem c.args.q (held c.well_formed.1.0.1.1.0.1) (held c.well_formed.1.0.1.1.1.0.1) c.requires.1 in
+    let r-within : Within reach c.args.r = accepted_within_lem c.args.r (held c.well_formed.1.1.0.1.1.0.1) (held c.well_formed.1.1.0.1.1.1.0.1) c.requires.2 in
+    factors_reach reach (lit≤ tt) (sized_neg q-within.y) r-within.x
+
+pub exact_product-e-requires : goal.exact_product-e-requires
+exact_product-e-requires c =
+    let q-within : Within reach c.args.q = accepted_within_lem c.args.q (held c.well_formed.1.0.1.1.0.1) (held c.well_formed.1.0.1.1.1.0.1) c.requires.1 in
+    let p-within : Within reach c.args.p = accepted_within_lem c.args.p (held c.well_formed.0.1.1.0.1) (held c.well_formed.0.1.1.1.0.1) c.requires.0 in
+    factors_reach reach (lit≤ tt) q-within.y p-within.x
+
+pub exact_product-f-requires : goal.exact_product-f-requires
+exact_product-f-requires c =
+    let p-within : Within reach c.args.p = accepted_within_lem c.args.p (held c.well_formed.0.1.1.0.1) (held c.well_formed.0.1.1.1.0.1) c.requires.0 in
+    let r-within : Within reach c.args.r = accepted_within_lem c.args.r (held c.well_formed.1.1.0.1.1.0.1) (held c.well_formed.1.1.0.1.1.1.0.1) c.requires.2 in
+    factors_reach reach (lit≤ tt) p-within.y r-within.x
+
+pub returns : goal.returns
+unfolding summands_of
+returns c =
+    pair _ _ _ c.exact_product-a.ensures
+    (pair _ _ _ c.exact_product-b.ensures
+    (pair _ _ _ c.exact_product-c.ensures
+    (pair _ _ _ c.exact_product-d.ensures
+    (pair _ _ _ c.exact_product-e.ensures
+    (pair _ _ _ c.exact_product-f.ensures refl)))))

@@ -1,0 +1,68 @@
+-- `zones::zone` meets its contract: the refusals in their order, and then the place. Assumes nothing.
+use mathlib.Core.Path.{sym, ap, ◌∙◌}
+use borrow.Author.Rules.{rules}
+use borrow.Author.Tests.{not-true, not-false}
+use Rattle.geometry.specs.Zone.{zone_said}
+use Rattle.geometry.specs.Parts.{fault_said}
+use Rattle.geometry.proofs.Laws.Zone.{zone_odd, zone_small, zone_large, zone_x, zone_y, zone_corner, zone_place, zone_zoned}
+use Rattle.point.specs.Accepted.{Accepted}
+use Rattle.geometry.proofs.zones.zone.Goals as goal
+
+pub returns-then-corners-eq1 : goal.returns-then-corners-eq1
+unfolding zone_said
+returns-then-corners-eq1 c =
+    ap zone_said c.refused.ensures ∙ zone_odd _ _ c.if-corners-eq1.true
+
+pub returns-then-n-lt-FEWEST : goal.returns-then-n-lt-FEWEST
+unfolding zone_said
+returns-then-n-lt-FEWEST c =
+    ap zone_said c.refused-then-n-lt-FEWEST.ensures ∙ zone_small _ _ c.if-corners-eq1.false c.if-n-lt-FEWEST.true
+
+pub returns-then-n-gt-MOST : goal.returns-then-n-gt-MOST
+unfolding zone_said
+returns-then-n-gt-MOST c =
+    ap zone_said c.refused-then-n-gt-MOST.ensures ∙ zone_large _ _ c.if-corners-eq1.false c.if-n-lt-FEWEST.false c.if-n-gt-MOST.true
+
+pub returns-then-not-accepted : goal.returns-then-not-accepted
+unfolding zone_said
+returns-then-not-accepted c =
+    ap zone_said c.refused-then-not-accepted.ensures
+    ∙ zone_x _ _ c.if-corners-eq1.false c.if-n-lt-FEWEST.false c.if-n-gt-MOST.false
+    (sym c.accepted.ensures ∙ c.if-not-accepted.true)
+
+pub returns-then-not-accepted-2 : goal.returns-then-not-accepted-2
+unfolding zone_said
+returns-then-not-accepted-2 c =
+    ap zone_said c.refused-then-not-accepted-2.ensures
+    ∙ zone_y _ _ c.if-corners-eq1.false c.if-n-lt-FEWEST.false c.if-n-gt-MOST.false
+    (sym c.accepted.ensures ∙ c.if-not-accepted.false)
+    (sym c.accepted-2.ensures ∙ c.if-not-accepted-2.true)
+
+pub place-requires : goal.place-requires
+place-requires c =
+    let accepts : Accepted c.args.p = (record {
+      x = sym c.accepted.ensures ∙ c.if-not-accepted.false;
+      y = sym c.accepted-2.ensures ∙ c.if-not-accepted-2.false;
+    }) in (
+      zone_zoned _ c.if-corners-eq1.false c.if-n-lt-FEWEST.false c.if-n-gt-MOST.false
+          (ap fault_said (sym c.in-None.is) ∙ c.corner_fault.ensures),
+      accepts,
+    )
+
+pub returns-in-At : goal.returns-in-At
+returns-in-At c =
+    let accepts : Accepted c.args.p = (record {
+      x = sym c.accepted.ensures ∙ c.if-not-accepted.false;
+      y = sym c.accepted-2.ensures ∙ c.if-not-accepted-2.false;
+    }) in
+    zone_corner _ _ c.if-corners-eq1.false c.if-n-lt-FEWEST.false c.if-n-gt-MOST.false accepts _
+    (ap fault_said (sym c.in-At.is) ∙ c.corner_fault.ensures)
+
+pub returns-in-None : goal.returns-in-None
+returns-in-None c =
+    let accepts : Accepted c.args.p = (record {
+      x = sym c.accepted.ensures ∙ c.if-not-accepted.false;
+      y = sym c.accepted-2.ensures ∙ c.if-not-accepted-2.false;
+    }) in
+    zone_place _ _ c.if-corners-eq1.false c.if-n-lt-FEWEST.false c.if-n-gt-MOST.false accepts
+    (ap fault_said (sym c.in-None.is) ∙ c.corner_fault.ensures) _ c.place.ensures
