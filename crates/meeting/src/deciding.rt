@@ -71,7 +71,7 @@ fn through(a: Piece, b: Piece, u: Sign) -> Meeting
 // Two pieces that have a length, by the sides of b's ends.
 fn of_long(a: Piece, b: Piece, x: Range, y: Range) -> Meeting
     requires { AcceptedPiece a × AcceptedPiece b × InCommon a b x y }
-    ensures { meeting_said result ≡ found.ofLong (edge_of a) (edge_of b) }
+    ensures { meeting_said result ≡ found.of_long (edge_of a) (edge_of b) }
 {
     let u = side_of(a, b.from);
     let v = side_of(a, b.to);
@@ -87,7 +87,7 @@ fn of_long(a: Piece, b: Piece, x: Range, y: Range) -> Meeting
 // A point in the box of a piece: on it, or beside it.
 fn of_dot(a: Piece, p: Point) -> Meeting
     requires { AcceptedPiece a × Accepted p }
-    ensures { meeting_said result ≡ found.ofDot (edge_of a) (spot_of p) }
+    ensures { meeting_said result ≡ found.of_dot (edge_of a) (spot_of p) }
 {
     let s = side_of(a, p);
     match s {
@@ -111,7 +111,7 @@ fn is_dot(a: Piece) -> bool
 // Two pieces whose boxes have something in common: x and y.
 fn in_boxes(a: Piece, b: Piece, x: Range, y: Range) -> Meeting
     requires { AcceptedPiece a × AcceptedPiece b × InCommon a b x y }
-    ensures { meeting_said result ≡ found.inBoxes (edge_of a) (edge_of b) }
+    ensures { meeting_said result ≡ found.in_boxes (edge_of a) (edge_of b) }
 {
     if is_dot(a) {
         if is_dot(b) {

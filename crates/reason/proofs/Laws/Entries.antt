@@ -46,10 +46,11 @@ stands_listed xs rest v s = go xs s.at s.within s.is
     go (x ∷ xs) (suc i) h e = let (y, m, c) = go xs i (omega arith) e in (y, Memᴰ.tail m, c)
 
 pub listed_stands : (xs : List Entry) (rest : List ℕ) (x : Entry) → Memᴰ x xs → Stands (map code xs ++ rest) (length xs) (code x)
-listed_stands xs rest x (Memᴰ.head {x = y} {xs = ys} e) = record { at = 0; within = omega arith; is = ap code (sym e) }
-listed_stands xs rest x (Memᴰ.tail {x = y} {xs = ys} m) =
-    let s = listed_stands ys rest x m in
-    record { at = suc s.at; within = omega (arith, s.within); is = s.is }
+listed_stands xs rest x m = go x xs m
+  where
+    go : (x : Entry) (xs : List Entry) → Memᴰ x xs → Stands (map code xs ++ rest) (length xs) (code x)
+    go x xs (Memᴰ.head {x = y} {xs = ys} e) = record { at = 0; within = omega arith; is = ap code (sym e) }
+    go x xs (Memᴰ.tail {x = y} {xs = ys} m) = let s = go x ys m in record { at = suc s.at; within = omega (arith, s.within); is = s.is }
 
 -- ---- their numbers rise
 module _ (rest : List ℕ) where

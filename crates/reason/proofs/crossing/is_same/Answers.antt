@@ -1,0 +1,11 @@
+-- `crossing::is_same` meets its contract: by the first test's outcome. Assumes nothing.
+
+use Rattle.reason.proofs.crossing.is_same.Goals as goal
+
+pub returns-then-a-b : goal.returns-then-a-b
+returns-then-a-b c =
+    rw c.if-a-b.true
+
+pub returns : goal.returns
+returns c =
+    rw c.if-a-b.false
