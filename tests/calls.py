@@ -6,18 +6,18 @@ that a `pub use` hands on. A form of item that is not read here is an error, so 
 
 import re
 
-CRATE = re.compile(r"^(\w+):", re.MULTILINE)
+CRATE = re.compile(r"^(\w+)(?: staticlib)?:", re.MULTILINE)
 COMMENT = re.compile(r"//[^\n]*")
 MODULE = re.compile(r"^(pub )?mod (\w+);", re.MULTILINE)
 HANDED_ON = re.compile(r"^pub use ([^;]*);", re.MULTILINE)
 FUNCTION = re.compile(r'^(pub )?(?:extern "C" )?fn (\w+)\(([^()]*)\)\s*(?:-> ([^{]*?))?\s*(?=\{|requires\b|ensures\b)', re.MULTILINE)
 CLAUSE = re.compile(r"\s*(requires|ensures)\b[^{]*\{")
 TYPE = r"^pub (?:struct|enum|const|type) {}\b"
-ITEM = re.compile(r'(pub )?(mod \w+;|use |(extern "C" )?fn |struct |enum |const \w+:|type )|ghost use |#\[|[{}()]')  # how a line can start
-PROMISED = re.compile(r"\s*λ (\w+)\. ⌜ (\w+Says)\b([^⌜⌝]*)⌝\s*")
+ITEM = re.compile(r'(pub )?(mod \w+;|use |(extern "C" )?fn |struct |enum |const \w+:|type )|ghost use |#!?\[|[{}()]')  # how a line can start
+PROMISED = re.compile(r"\s*(\w+Says)\b([^{}]*)")
 USE = re.compile(r"^(?:ghost )?use (\S+)\.\{([^}]*)\}", re.MULTILINE)
 PROMISE = re.compile(r"^(abbrev pub|pub record) (\w+Says)\b", re.MULTILINE)
-LAW = re.compile(r"^( *)(?:pub )?(\S+-fixed) :(.*?)(?=^ *\2 |^ *unfolding |\Z)", re.MULTILINE | re.DOTALL)
+LAW = re.compile(r"^( *)(?:pub )?(\S+_fixed) :(.*?)(?=^ *\2 |^ *unfolding |\Z)", re.MULTILINE | re.DOTALL)
 STATEMENT = re.compile(r"((?:\([^()]*\)\s*)+)→ Fixes \((?:λ \([^()]*\)\. )?(\w+Says)\b([\w\s().]*)\)")
 
 
@@ -26,7 +26,7 @@ class Call:
         self.crate, self.path, self.name, self.clauses = crate, path, function[2], clauses
         self.parameters = [tuple(part.strip().removeprefix("mut ").split(": ", 1)) for part in function[3].split(",") if part.strip()]
         self.answers = function[4] is not None
-        self.law = self.name.replace("_", "-") + "-fixed"
+        self.law = self.name + "_fixed"
 
     def __str__(self):
         return f"{self.crate}::{self.name}"
@@ -46,33 +46,20 @@ class Call:
         cited = PROMISED.fullmatch(self.path.read_text(), start, end)
         if not cited:
             raise Wrong("its ensures is not one promise `…Says`, alone")
-        result, name, arguments = cited.groups()
-        if sorted(parts_of(arguments)) != sorted(self.arguments(result)):
-            raise Wrong(f"its ensures has to cite {name} {' '.join(self.arguments(result))}")
+        name, arguments = cited.groups()
+        if sorted(arguments.split()) != sorted(self.arguments()):
+            raise Wrong(f"its ensures has to cite {name} {' '.join(self.arguments())}")
         return name
 
-    def arguments(self, result):
+    def arguments(self):
         """What it is called with, its result, and what it leaves in memory that it was lent to write."""
-        before = [f"(now ({name} .entry))" if kind.startswith("&") else name for name, kind in self.parameters]
-        after = [f"(now ({name} .exit))" for name, kind in self.parameters if kind.startswith("&mut ")]
-        return before + [result] * self.answers + after
+        before = [name + (".old" if kind.startswith("&mut ") else ".now" if kind.startswith("&") else "") for name, kind in self.parameters]
+        after = [f"{name}.new" for name, kind in self.parameters if kind.startswith("&mut ")]
+        return before + ["result"] * self.answers + after
 
 
 class Wrong(Exception):
     pass
-
-
-def parts_of(arguments):
-    """Arguments that are names or stand in parentheses."""
-    parts, depth = [], 0
-    for token in re.findall(r"[()]|[^\s()]+", arguments):
-        depth -= token == ")"
-        if depth == 0 and token != ")":
-            parts.append(token)
-        else:
-            parts[-1] += token if token == ")" or parts[-1].endswith("(") else f" {token}"
-        depth += token == "("
-    return parts
 
 
 # ---- the libraries
@@ -112,7 +99,14 @@ def calls_of(crate, path, folder):
         if public:
             yield from calls_of(crate, folder / f"{module}.rt", folder / module)
     for handed in HANDED_ON.findall(text):
-        yield from handed_on(crate, folder, handed)
+        for path in paths_of(handed):
+            yield from handed_on(crate, folder, path)
+
+
+def paths_of(handed):
+    """The paths of a `pub use`, of which the last part may be several names in braces."""
+    start, brace, names = handed.partition("{")
+    return [start + name.strip() for name in names.rstrip("}").split(",") if name.strip()] if brace else [start]
 
 
 def handed_on(crate, folder, handed):
@@ -146,7 +140,7 @@ def clauses_after(place, text):
 
 
 class Law:
-    """A law NAME-fixed: its file, and its statement unless that depends on a section."""
+    """A law NAME_fixed: its file, and its statement unless that depends on a section."""
 
     def __init__(self, path, section, statement):
         self.path = path
@@ -180,4 +174,4 @@ def uses(root, path, name, specs):
     crate, _, *modules = specs.relative_to(root / "crates").with_suffix("").parts
     used = [(module, item.split()) for module, items in USE.findall(path.read_text()) for item in items.split(",")]
     found = [(module, item) for module, item in used if item[-1:] == [name]]
-    return found == [(f"Rattle·{crate}·specs.specs.{'.'.join(modules)}", [name])]
+    return found == [(f"Rattle.{crate}.specs.{'.'.join(modules)}", [name])]
