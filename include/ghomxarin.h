@@ -1,4 +1,4 @@
-/* ghomxarin.h: exact questions about doubles, for C. Link with libviewer.a, which `rt staticlib viewer` writes to target/staticlib.
+/* ghomxarin.h: exact questions about doubles, for C. Link with libviewer.a, which tools/viewer-library writes to crates/viewer_c/out.
  *
  * Both functions answer for every input, and every answer is exact: no rounding error, no tolerance.
  *

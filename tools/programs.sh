@@ -6,33 +6,35 @@ die() {
     exit 2
 }
 
-# Puts the words that start a built program into the array `program`: with the loader and the C library of the toolchain, as rt starts it, or with
-# the machine's own where there is no toolchain.
-find_program() {
-    local file=$root/target/bin/$1 machine kit=${RATTLE_HOME-} rt tools
-    [ -f "$file" ] || die "$1 is not built; 'rt check $1' builds it"
+# Puts the words that start this file into the array `program`: it is made for x86-64.
+words_for() {
+    local machine
     machine=$(uname -m)
-    if [ -z "$kit" ] && rt=$(command -v rt); then
-        rt=$(readlink -f -- "$rt")
-        kit=${rt%/*/*}
-    fi
-    tools=$kit/on/$machine/toolchain
-    if [ -n "$kit" ] && [ -f "$tools/lib/ld-linux-x86-64.so.2" ]; then
-        program=("$tools/lib/ld-linux-x86-64.so.2" --library-path "$tools/lib" "$file")
-        [ "$machine" = x86_64 ] || program=("$tools/bin/qemu-x86_64" "${program[@]}")
-    elif [ "$machine" = x86_64 ]; then
-        program=("$file")
+    if [ "$machine" = x86_64 ]; then
+        program=("$1")
     elif command -v qemu-x86_64 >/dev/null; then
-        program=(qemu-x86_64 "$file")
+        program=(qemu-x86_64 "$1")
     else
-        die "the programs are made for x86-64; on $machine the toolchain's emulator is needed, or qemu-x86_64"
+        die "the programs are made for x86-64; on $machine qemu-x86_64 is needed"
     fi
 }
 
-# Proves and builds a program that is missing or older than its sources.
+# Likewise for a built program, by its name.
+find_program() {
+    local file=$root/crates/$1/out/$1
+    [ -f "$file" ] || die "$1 is not built; 'rt run' in crates/$1 builds it"
+    words_for "$file"
+}
+
+# Whether a built program is older than what it is made of.
+is_old() {
+    [ -n "$(find "$root/crates.txt" "$root"/crates/*/{src,specs,proofs} -newer "$1" -print -quit 2>/dev/null)" ]
+}
+
+# Proves and builds a program that is missing or older than its sources. rt builds a program by a run, here of no input.
 build_program() {
-    local file=$root/target/bin/$1
-    if [ -f "$file" ] && [ -z "$(find "$root/crates" "$root/crates.txt" -newer "$file" -print -quit)" ]; then
+    local file=$root/crates/$1/out/$1
+    if [ -f "$file" ] && ! is_old "$file"; then
         return
     fi
     if ! command -v rt >/dev/null; then
@@ -41,42 +43,45 @@ build_program() {
         return
     fi
     [ -f "$file" ] || printf 'Proving and building the program %s; this takes some minutes.\n' "$1" >&2
-    (cd -- "$root" && rt check "$1") 2>&1 | show_progress "$(crates_below "$1")"
-    [ "${PIPESTATUS[0]}" -eq 0 ] || die "the program $1 could not be built"
+    (cd -- "$root/crates/$1" && rt run </dev/null 2>&1 >/dev/null && echo built) | show_progress $(crates_below "$1") || die "the program $1 could not be built"
     touch -- "$file"
 }
 
-# The number of crates that a program is built of, itself among them.
+# The crates that a program is built of, itself the last, in the order of crates.txt.
 crates_below() {
-    local -A needs=() seen=()
-    local name rest crate wanted=("$1")
-    while IFS=: read -r name rest; do
-        case $name in '' | '#'*) continue ;; esac
-        needs[$name]=${rest%%#*}
-    done <"$root/crates.txt"
-    while [ ${#wanted[@]} -gt 0 ]; do
-        crate=${wanted[0]}
-        wanted=("${wanted[@]:1}")
-        [ -n "${needs[$crate]+listed}" ] && [ -z "${seen[$crate]-}" ] || continue
-        seen[$crate]=1
-        read -ra rest <<<"${needs[$crate]}"
-        wanted+=("${rest[@]}")
-    done
-    printf '%s\n' "${#seen[@]}"
-}
-
-# From what rt says: a line for each crate that was proved, as `3 of 12 sum, 31 s`; and all that was said of one that was not.
-show_progress() {
-    local total=$1 done=0 line said=()
+    local -A needs=() wanted=([$1]=1)
+    local line crates=() need i
     while IFS= read -r line; do
-        said+=("$line")
-        if [[ $line =~ ^rt:\ ([a-z_]+)\ proved\ \((.*)\)$ ]]; then
-            done=$((done + 1))
-            said=()
-            [[ ${BASH_REMATCH[2]} == unchanged* ]] || printf '%s of %s %s, %s\n' "$done" "$total" "${BASH_REMATCH[1]}" "${BASH_REMATCH[2]}" >&2
+        [[ $line =~ ^([a-z0-9_]+)[^:#]*:([^#]*) ]] || continue
+        crates+=("${BASH_REMATCH[1]}")
+        needs[${BASH_REMATCH[1]}]=${BASH_REMATCH[2]}
+    done <"$root/crates.txt"
+    for ((i = ${#crates[@]} - 1; i >= 0; i--)); do
+        if [ -n "${wanted[${crates[i]}]-}" ]; then
+            for need in ${needs[${crates[i]}]}; do wanted[$need]=1; done
+        else
+            unset "crates[i]"
         fi
     done
-    [ "$done" -ge "$total" ] || printf '%s\n' "${said[@]}" >&2
+    printf '%s\n' "${crates[@]}"
+}
+
+# From what rt says, with the names of the crates in order: a line for each that was proved, as `3 of 12 sum`; and where the program is not
+# built, all that was said since then.
+show_progress() {
+    local line said=() crate i
+    while IFS= read -r line; do
+        [ "$line" != built ] || return 0
+        said+=("$line")
+        if [[ $line =~ ^crate\ ([a-z0-9_]+):\  ]]; then
+            crate=${BASH_REMATCH[1]}
+        elif [[ $line == 'logic=proved '* ]]; then
+            for ((i = 1; i <= $#; i++)); do [ "${!i}" != "$crate" ] || printf '%s of %s %s\n' "$i" "$#" "$crate" >&2; done
+            said=()
+        fi
+    done
+    printf '%s\n' "${said[@]}" >&2
+    return 1
 }
 
 # The refusals in words, from the rules' own table.

@@ -14,6 +14,11 @@ ASK = str(ROOT / "ask")
 SECONDS = 600
 
 
+def built(root, command):
+    """Where rt leaves a command's program."""
+    return root / "crates" / command / "out" / command
+
+
 def track(*coordinates):
     return file_of([pattern_of(float(coordinate)) for coordinate in coordinates])
 

@@ -2,9 +2,9 @@
 
 import os
 
-from commanded import OTHER, ROOT, SQUARE, THREE, WHY, folder, run, track
+from commanded import OTHER, ROOT, SQUARE, THREE, WHY, built, folder, run, track
 from commanded.folders import NO_PLACES, environments, is_closed_to_nobody, plain
-from commanded.programs import copy_of, install
+from commanded.programs import MAKE, PROVING, copy_of, install, install_rt
 from limits import as_nobody, files_of_at_most
 
 # so that the square has each form of line
@@ -26,7 +26,7 @@ NO_FOLDER = "no such folder\n"
 ZIGZAG = track(*[number for index in range(64) for number in (index + 1, index % 2 * 2 - 1)])
 ALL_COUNT = "".join(f"edge {edge} up, edge {edge + 1} down, " for edge in range(0, 64, 2)) + "total 0\n"
 
-NEEDED = ["bash", "find", "readlink", "touch", "uname"]
+NEEDED = ["bash", "find", "qemu-x86_64", "readlink", "touch", "uname"]
 
 
 def six(path):
@@ -195,19 +195,15 @@ def why_torn(checks, place):
 
 def why_alone(checks, place):
     """With the built program and few tools, with an old program, with none, and with one that is built."""
-    why = copy_of(place / "alone", NEEDED, ROOT / "target" / "bin" / "why", "why")
+    why = copy_of(place / "alone", NEEDED, built(ROOT, "why"), "why")
     six(place / "alone" / "six")
     checks.equal("the program why alone", why("six", "5"), (LINES[4], "", 0))
-    os.utime(place / "alone" / "repository" / "crates", (4e9, 4e9))
+    os.utime(place / "alone" / "repository" / "crates" / "why" / "src", (4e9, 4e9))
     old = "why: the program why is older than its sources, and there is no command rt to build it anew\n"
     checks.equal("an old program why", why("six", "5"), (LINES[4], old, 0))
     missing = copy_of(place / "unbuilt", [*NEEDED, "chmod"], None, "why")
     six(place / "unbuilt" / "six")
     told = "why: the program why is not built, and the Rattle toolchain that builds it is missing: there is no command rt on the path\n"
     checks.equal("no program why and no toolchain", missing("six"), ("", told, 2))
-    rt = place / "unbuilt" / "path" / "rt"
-    build = "printf '#!/bin/sh\\nprintf \"releases 0\\\\n\"' > target/bin/why; chmod +x target/bin/why\n"
-    rt.write_text("#!/bin/bash\n[ \"$*\" = 'check why' ] || exit 9\nfor c in low middle why; do echo \"rt: $c proved (2 s)\"; done\n" + build)
-    rt.chmod(0o755)
-    told = "Proving and building the program why; this takes some minutes.\n1 of 3 low, 2 s\n2 of 3 middle, 2 s\n3 of 3 why, 2 s\n"
-    checks.equal("a first build of why", missing("six"), ("", told + "why: 0 of 0 releases not inside\n", 0))
+    install_rt(place / "unbuilt", "why", ("low", "middle", "why"), MAKE.format("why"))
+    checks.equal("a first build of why", missing("six"), ("", PROVING.format("why") + "why: 0 of 0 releases not inside\n", 0))
