@@ -9,6 +9,7 @@ pub enum Digit {
     None,
 }
 
+#[tactic(auto, unfolding(crate::specs::Numeral::digit_of))]
 pub fn digit_of(b: u8) -> Digit
     ensures { result ≡ digit_of b }
 {

@@ -29,6 +29,7 @@ fn begun(b: u8) -> Line
 }
 
 // The first word is whole.
+#[tactic(auto, unfolding(crate::specs::Word::word_of))]
 fn named(letters: u64) -> Line
     ensures { result ≡ named_of letters }
 {
@@ -74,6 +75,7 @@ fn grown(line: Line, b: u8) -> Step
 }
 
 // The line with one byte more, which is no line end.
+#[tactic(auto, unfolding(crate::specs::Next::next_of))]
 pub fn next(line: Line, b: u8) -> Step
     ensures { NextSays line b result }
 {
@@ -131,6 +133,7 @@ fn closed(s: Step) -> End
 }
 
 // A whole line: its last word is whole too.
+#[tactic(auto, unfolding(crate::specs::Next::ended_of))]
 pub fn ended(line: Line) -> End
     ensures { EndedSays line result }
 {

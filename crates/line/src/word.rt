@@ -61,6 +61,7 @@ pub fn naming(letters: u64, b: u8) -> Line
     Line::Naming(256 * letters + b as u64)
 }
 
+#[tactic(auto, unfolding(crate::specs::Word::word_of))]
 pub fn word_of(letters: u64) -> Known
     ensures { result ≡ word_of letters }
 {
