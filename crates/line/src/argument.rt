@@ -47,6 +47,7 @@ pub fn counting(c: Counting, b: u8) -> Line
 }
 
 // A count is whole: the first says what follows, and any other is found.
+#[tactic(auto, using(crate::proofs::Laws::Next::counted_later))]
 pub fn counted(c: Counting) -> Step
     ensures { result ≡ counted_of c }
 {
@@ -122,6 +123,7 @@ pub fn asked(word: Word, count: u32) -> Line
 }
 
 // One digit more of a double.
+#[tactic(auto, using(crate::proofs::Laws::Digit::digit_small))]
 pub fn asking(q: Asking, b: u8) -> Line
     ensures { result ≡ asking_of q b }
 {

@@ -6,6 +6,7 @@ use crate::answer::{Asked, Found, Line, Reading, Step};
 use crate::digit::{Digit, digit_of};
 
 // One digit more: the second of a byte has it found.
+#[tactic(auto, using(crate::proofs::Laws::Digit::digit_small))]
 pub fn reading(f: Reading, b: u8) -> Step
     ensures { result ≡ reading_of f b }
 {
