@@ -8,12 +8,10 @@ use Rattle.number.proofs.Laws.Number.{at_start, at_next, weight_small, weight_la
 use Rattle.number.proofs.numbers.number_at.Goals as goal
 
 pub loop-turn-init : goal.loop-turn-init
-loop-turn-init c =
-    at_start _ _
+loop-turn-init c = at_start _ _
 
 pub returns-then-bytes-at : goal.returns-then-bytes-at
-returns-then-bytes-at c =
-    c.refused.ensures ∙ number_ends _ _ _ _ _ _ c.loop-turn.invariant c.if-bytes-at.true
+returns-then-bytes-at c = c.refused.ensures ∙ number_ends _ _ _ _ _ _ c.loop-turn.invariant c.if-bytes-at.true
 
 pub returns-then-turn-gt0 : goal.returns-then-turn-gt0
 returns-then-turn-gt0 c =
@@ -34,8 +32,7 @@ returns-then-b-eq0 c =
     c.if-b-lt-TOP.true (rw e refl)
 
 pub overflow_mul-result : goal.overflow_mul-result
-overflow_mul-result c =
-    (value_fits c.loop-turn.invariant c.loop-turn-test.true c.wide-b.result c.if-b-lt-TOP.true).0
+overflow_mul-result c = (value_fits c.loop-turn.invariant c.loop-turn-test.true c.wide-b.result c.if-b-lt-TOP.true).0
 
 pub overflow_add-result-then-b-lt-TOP : goal.overflow_add-result-then-b-lt-TOP
 overflow_add-result-then-b-lt-TOP c =
@@ -58,8 +55,7 @@ overflow_add-value c =
     (value_fits c.loop-turn.invariant c.loop-turn-test.true (c.wide-b.result - 128) low).1
 
 pub overflow_mul-weight : goal.overflow_mul-weight
-overflow_mul-weight c =
-    omega (arith, weight_small c.loop-turn.invariant c.loop-turn-test.true)
+overflow_mul-weight c = omega (arith, weight_small c.loop-turn.invariant c.loop-turn-test.true)
 
 pub loop-turn-preserved : goal.loop-turn-preserved
 loop-turn-preserved c =
@@ -68,12 +64,10 @@ loop-turn-preserved c =
     c.if-b-lt-TOP.false (omega (arith, low))
 
 pub returns-then-bytes-at-2 : goal.returns-then-bytes-at-2
-returns-then-bytes-at-2 c =
-    c.refused-then-bytes-at-2.ensures ∙ number_ends _ _ _ _ _ _ c.loop-turn.invariant c.if-bytes-at-2.true
+returns-then-bytes-at-2 c = c.refused-then-bytes-at-2.ensures ∙ number_ends _ _ _ _ _ _ c.loop-turn.invariant c.if-bytes-at-2.true
 
 pub overflow_add-value-2 : goal.overflow_add-value-2
-overflow_add-value-2 c =
-    omega (arith, weight_last c.loop-turn.invariant c.loop-turn-test.false)
+overflow_add-value-2 c = omega (arith, weight_last c.loop-turn.invariant c.loop-turn-test.false)
 
 pub returns : goal.returns
 returns c =

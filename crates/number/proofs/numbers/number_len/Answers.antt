@@ -9,8 +9,7 @@ use Rattle.number.proofs.Laws.Written.{groups_step, groups_last, written_groups}
 use Rattle.number.proofs.numbers.number_len.Goals as goal
 
 pub loop-rest-init : goal.loop-rest-init
-loop-rest-init c =
-    (full, refl, c.ranges.value.fits, ap (λ (g : List ℕ). 1 + length g) (sym (written_groups _)))
+loop-rest-init c = (full, refl, c.ranges.value.fits, ap (λ (g : List ℕ). 1 + length g) (sym (written_groups _)))
 
 pub loop-rest-preserved : goal.loop-rest-preserved
 loop-rest-preserved c =

@@ -5,9 +5,7 @@ use Rattle.refusal.proofs.Laws.Judged.{cond_yes, cond_no}
 use Rattle.number.proofs.numbers.tenth.Goals as goal
 
 pub returns-then-b-eq1 : goal.returns-then-b-eq1
-returns-then-b-eq1 c =
-    sym (cond_yes _ _ (eq-eqb _ _ c.if-b-eq1.true))
+returns-then-b-eq1 c = sym (cond_yes _ _ (eq-eqb _ _ c.if-b-eq1.true))
 
 pub returns : goal.returns
-returns c =
-    c.refused.ensures ∙ sym (cond_no _ _ (ne_eqb _ _ c.if-b-eq1.false))
+returns c = c.refused.ensures ∙ sym (cond_no _ _ (ne_eqb _ _ c.if-b-eq1.false))
