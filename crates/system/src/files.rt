@@ -1,5 +1,11 @@
 // The bytes of a file.
+ghost use Rattle.std.specs.Prelude.{◌≤◌, length};
+ghost use Rattle.system.specs.Moved.{Holds, Fits};
+
 use crate::read;
+use std::fs;
+use std::fs::Files;
+use std::io::Read;
 
 // What was read of a file.
 #[derive(Clone, Copy)]
@@ -11,28 +17,26 @@ pub enum Held {
 }
 
 // Reads the file of this name until it ends or the buffer is full.
-pub fn bytes_of(name: &[u8], buf: &mut [u8]) -> Held {
-    let fd = os::open_read(name);
-    if fd < 0 {
-        return Held::Unreadable;
+pub fn bytes_of<R: Files>(rt: &R, name: &str, buf: &mut [u8]) -> Held
+    ensures { Fits result buf.new }
+{
+    match fs::open(rt, name) {
+        Ok(mut file) => filled(&mut file, buf),
+        Err(_) => Held::Unreadable,
     }
-    let found = filled(fd, buf);
-    libc::close(fd);
-    found
 }
 
-fn filled(fd: i32, buf: &mut [u8]) -> Held {
+// Reads until the reader ends or the buffer is full.
+pub fn filled<F: Read>(file: &mut F, buf: &mut [u8]) -> Held
+    ensures { Holds (F.remaining file.old) (F.remaining file.new) result buf.new }
+{
     let mut n: usize = 0;
     while n < buf.len() {
-        let got = read(fd, &mut buf[n..]);
-        if got < 0 {
-            return Held::Unreadable;
+        match read(file, &mut buf[n..]) {
+            Ok(0) => return Held::Bytes(n),
+            Ok(k) => n += k,
+            Err(_) => return Held::Unreadable,
         }
-        let k = io::count(got, &buf[n..]);
-        if k == 0 {
-            return Held::Bytes(n);
-        }
-        n += k;
     }
     Held::Bytes(n)
 }
