@@ -1,6 +1,6 @@
 // The bytes of a file.
 ghost use Rattle.std.specs.Prelude.{◌≤◌, length};
-ghost use Rattle.system.specs.Moved.{Holds, Fits};
+ghost use Rattle.system.specs.Moved.{HoldsStart, IsWithin};
 
 use crate::read;
 use std::fs;
@@ -18,7 +18,7 @@ pub enum Held {
 
 // Reads the file of this name until it ends or the buffer is full.
 pub fn bytes_of<R: Files>(rt: &R, name: &str, buf: &mut [u8]) -> Held
-    ensures { Fits result buf.new }
+    ensures { IsWithin result buf.new }
 {
     match fs::open(rt, name) {
         Ok(mut file) => filled(&mut file, buf),
@@ -28,7 +28,7 @@ pub fn bytes_of<R: Files>(rt: &R, name: &str, buf: &mut [u8]) -> Held
 
 // Reads until the reader ends or the buffer is full.
 pub fn filled<F: Read>(file: &mut F, buf: &mut [u8]) -> Held
-    ensures { Holds (F.remaining file.old) (F.remaining file.new) result buf.new }
+    ensures { HoldsStart (F.remaining file.old) (F.remaining file.new) result buf.new }
 {
     let mut n: usize = 0;
     while n < buf.len() {
