@@ -18,12 +18,12 @@ mod tracks;
 mod word;
 
 use held::{Bytes, Input, List, Out};
-use libc::STDIN_FILENO;
 use line::answer::Line;
 use part::first;
+use std::io::{Eprint, Print, Read};
 
 // What is left after some bytes of input: the line that they end in, how much of its numbers is held, and how many bytes of output wait.
-#[derive(Drop)]
+#[derive(Clone, Copy)]
 struct Left {
     line: Line,
     taken: usize,
@@ -31,13 +31,20 @@ struct Left {
 }
 
 // One byte of input more: a line end has the line answered.
-fn fed(left: Left, b: u8, bytes: &mut Bytes, list: &mut List, out: &mut Out) -> Left {
+fn fed<R: Print + Eprint>(
+    rt: &R,
+    left: Left,
+    b: u8,
+    bytes: &mut Bytes,
+    list: &mut List,
+    out: &mut Out,
+) -> Left {
     let line = left.line;
     if b == b'\n' {
         return Left {
             line: Line::Empty,
             taken: 0,
-            len: replied(line, left.taken, bytes, list, out, left.len),
+            len: replied(rt, line, left.taken, bytes, list, out, left.len),
         };
     }
     let step = line::next(line, b);
@@ -46,12 +53,13 @@ fn fed(left: Left, b: u8, bytes: &mut Bytes, list: &mut List, out: &mut Out) -> 
     Left {
         line: more,
         taken: taken::with(found, left.taken, bytes, list),
-        len: copied(more, b, out, left.len),
+        len: copied(rt, more, b, out, left.len),
     }
 }
 
 // The answer of a whole line, put out.
-fn replied(
+fn replied<R: Print + Eprint>(
+    rt: &R,
     line: Line,
     taken: usize,
     bytes: &mut Bytes,
@@ -64,19 +72,20 @@ fn replied(
     let found = end.found;
     let n = taken::with(found, taken, bytes, list);
     let reply = answer::answer(asked, n, bytes, list);
-    out::put_reply(out, len, reply, bytes, list)
+    out::put_reply(rt, out, len, reply, bytes, list)
 }
 
 // The last byte of a line, put out where the line is copied.
-fn copied(line: Line, b: u8, out: &mut Out, len: usize) -> usize {
+fn copied<R: Print + Eprint>(rt: &R, line: Line, b: u8, out: &mut Out, len: usize) -> usize {
     if let Line::Comment = line {
-        return out::put(out, len, b);
+        return out::put(rt, out, len, b);
     }
     len
 }
 
 // The first n bytes of `input` more, one by one.
-fn feed(
+fn feed<R: Print + Eprint>(
+    rt: &R,
     left: Left,
     input: &Input,
     n: usize,
@@ -88,23 +97,30 @@ fn feed(
     let mut left = left;
     let mut i: usize = 0;
     while i < more.len() {
-        left = fed(left, more[i], bytes, list, out);
+        left = fed(rt, left, more[i], bytes, list, out);
         i += 1;
     }
     left
 }
 
 // The last line where it has no line end.
-fn last(line: Line, taken: usize, bytes: &mut Bytes, list: &mut List, out: &mut Out) {
+fn last<R: Print + Eprint>(
+    rt: &R,
+    line: Line,
+    taken: usize,
+    bytes: &mut Bytes,
+    list: &mut List,
+    out: &mut Out,
+) {
     if let Line::Empty = line {
         return;
     }
-    let len = replied(line, taken, bytes, list, out, 0);
-    out::flush(out, len);
+    let len = replied(rt, line, taken, bytes, list, out, 0);
+    out::flush(rt, out, len);
 }
 
 // What one read of the input gives.
-#[derive(Drop)]
+#[derive(Clone, Copy)]
 enum Got {
     Bytes(usize),
     // The input is over.
@@ -113,22 +129,22 @@ enum Got {
     Failed,
 }
 
-fn filled(input: &mut Input) -> Got {
-    let got = system::read(STDIN_FILENO, input);
-    if got < 0 {
-        os::fail(b"input");
-        return Got::Failed;
+fn filled<R: Eprint, F: Read>(rt: &R, from: &mut F, input: &mut Input) -> Got {
+    match system::read(from, input) {
+        Ok(0) => Got::Ended,
+        Ok(n) => Got::Bytes(n),
+        Err(error) => {
+            system::failure::tell(rt, "input", &error);
+            Got::Failed
+        }
     }
-    if got == 0 {
-        return Got::Ended;
-    }
-    Got::Bytes(io::count(got, input))
 }
 
 // Reads until the input is over, and writes what each read answers, so that nothing waits while the next read does. Where a write fails the
 // run ends; where a read fails too, and a line that was cut off is not answered.
 // (The count of turns, which no input reaches, is why this ends.)
-fn main() {
+fn main(rt: HostRuntime) {
+    let mut from = rt.stdin();
     let mut input = io::large_buffer();
     let mut out = io::large_buffer();
     let mut bytes = [0u8; held::HELD];
@@ -141,17 +157,17 @@ fn main() {
     let mut turns = u64::MAX;
     while 0 < turns {
         turns -= 1;
-        match filled(&mut input) {
+        match filled(&rt, &mut from, &mut input) {
             Got::Bytes(n) => {
-                left = feed(left, &input, n, &mut bytes, &mut list, &mut out);
-                if !out::flush(&out, left.len) {
+                left = feed(&rt, left, &input, n, &mut bytes, &mut list, &mut out);
+                if !out::flush(&rt, &out, left.len) {
                     return;
                 }
                 left.len = 0;
             }
             Got::Ended => {
                 let line = left.line;
-                last(line, left.taken, &mut bytes, &mut list, &mut out);
+                last(&rt, line, left.taken, &mut bytes, &mut list, &mut out);
                 return;
             }
             Got::Failed => {

@@ -4,24 +4,25 @@ use crate::held::{Bytes, List, Out};
 use crate::part::{first, first_doubles};
 use crate::reply::Reply;
 use crate::word::{DOWN, LETTERS, NONE, UP, letter};
+use std::io::{Eprint, Print};
 
 pub const BROKEN: usize = usize::MAX;
 
 // Writes what waits, and answers whether no write failed.
-pub fn flush(out: &Out, len: usize) -> bool {
+pub fn flush<R: Print + Eprint>(rt: &R, out: &Out, len: usize) -> bool {
     if len == BROKEN {
         return false;
     }
-    system::write(first(out, len))
+    system::write(rt, first(out, len))
 }
 
 // One byte more; what waits is written first where it leaves no room.
-pub fn put(out: &mut Out, len: usize, b: u8) -> usize {
+pub fn put<R: Print + Eprint>(rt: &R, out: &mut Out, len: usize, b: u8) -> usize {
     if len < out.len() {
         out[len] = b;
         return len + 1;
     }
-    if !flush(out, len) {
+    if !flush(rt, out, len) {
         return BROKEN;
     }
     out[0] = b;
@@ -29,22 +30,29 @@ pub fn put(out: &mut Out, len: usize, b: u8) -> usize {
 }
 
 // The answer line of a reply, whose bytes and doubles are the first that are held.
-pub fn put_reply(out: &mut Out, len: usize, r: Reply, bytes: &Bytes, list: &List) -> usize {
-    let n = put_head(out, len, r);
-    let k = put_doubles(out, n, first_doubles(list, r.doubles));
-    let e = put_bytes(out, k, first(bytes, r.bytes));
-    let f = put_entries(out, e, first(bytes, r.entries));
-    put(out, f, b'\n')
+pub fn put_reply<R: Print + Eprint>(
+    rt: &R,
+    out: &mut Out,
+    len: usize,
+    r: Reply,
+    bytes: &Bytes,
+    list: &List,
+) -> usize {
+    let n = put_head(rt, out, len, r);
+    let k = put_doubles(rt, out, n, first_doubles(list, r.doubles));
+    let e = put_bytes(rt, out, k, first(bytes, r.bytes));
+    let f = put_entries(rt, out, e, first(bytes, r.entries));
+    put(rt, out, f, b'\n')
 }
 
-fn put_head(out: &mut Out, len: usize, r: Reply) -> usize {
-    let n = put_word(out, len, r.first);
-    let k = put_next(out, n, r.second);
-    let m = put_numbers(out, k, r);
-    put_next(out, m, r.last)
+fn put_head<R: Print + Eprint>(rt: &R, out: &mut Out, len: usize, r: Reply) -> usize {
+    let n = put_word(rt, out, len, r.first);
+    let k = put_next(rt, out, n, r.second);
+    let m = put_numbers(rt, out, k, r);
+    put_next(rt, out, m, r.last)
 }
 
-fn put_word(out: &mut Out, len: usize, word: usize) -> usize {
+fn put_word<R: Print + Eprint>(rt: &R, out: &mut Out, len: usize, word: usize) -> usize {
     let mut n = len;
     let mut i: usize = 0;
     while i < LETTERS {
@@ -52,117 +60,129 @@ fn put_word(out: &mut Out, len: usize, word: usize) -> usize {
         if b == b' ' {
             return n;
         }
-        n = put(out, n, b);
+        n = put(rt, out, n, b);
         i += 1;
     }
     n
 }
 
 // A word after a space, or nothing.
-fn put_next(out: &mut Out, len: usize, word: usize) -> usize {
+fn put_next<R: Print + Eprint>(rt: &R, out: &mut Out, len: usize, word: usize) -> usize {
     if word == NONE {
         return len;
     }
-    let n = put(out, len, b' ');
-    put_word(out, n, word)
+    let n = put(rt, out, len, b' ');
+    put_word(rt, out, n, word)
 }
 
-fn put_numbers(out: &mut Out, len: usize, r: Reply) -> usize {
+fn put_numbers<R: Print + Eprint>(rt: &R, out: &mut Out, len: usize, r: Reply) -> usize {
     if r.count < 1 {
         return len;
     }
-    let n = put_signed(out, len, r.negative, r.a);
+    let n = put_signed(rt, out, len, r.negative, r.a);
     if r.count < 2 {
         return n;
     }
-    let k = put_decimal(out, n, r.b);
+    let k = put_decimal(rt, out, n, r.b);
     if r.count < 3 {
         return k;
     }
-    put_decimal(out, k, r.c)
+    put_decimal(rt, out, k, r.c)
 }
 
-fn put_digits(out: &mut Out, len: usize, digits: &[u8]) -> usize {
+fn put_digits<R: Print + Eprint>(rt: &R, out: &mut Out, len: usize, digits: &[u8]) -> usize {
     let mut n = len;
     let mut i: usize = 0;
     while i < digits.len() {
-        n = put(out, n, digits[i]);
+        n = put(rt, out, n, digits[i]);
         i += 1;
     }
     n
 }
 
-fn put_decimal(out: &mut Out, len: usize, value: u64) -> usize {
-    put_signed(out, len, false, value)
+fn put_decimal<R: Print + Eprint>(rt: &R, out: &mut Out, len: usize, value: u64) -> usize {
+    put_signed(rt, out, len, false, value)
 }
 
 // A number in decimal, after a space, with a minus sign where it is below 0.
-fn put_signed(out: &mut Out, len: usize, negative: bool, value: u64) -> usize {
+fn put_signed<R: Print + Eprint>(
+    rt: &R,
+    out: &mut Out,
+    len: usize,
+    negative: bool,
+    value: u64,
+) -> usize {
     let mut digits = [0u8; 20];
     let k = io::decimal(value, &mut digits);
-    let n = put(out, len, b' ');
-    let m = put_minus(out, n, negative);
-    put_digits(out, m, &digits[..k])
+    let n = put(rt, out, len, b' ');
+    let m = put_minus(rt, out, n, negative);
+    put_digits(rt, out, m, &digits[..k])
 }
 
-fn put_minus(out: &mut Out, len: usize, negative: bool) -> usize {
+fn put_minus<R: Print + Eprint>(rt: &R, out: &mut Out, len: usize, negative: bool) -> usize {
     if negative {
-        return put(out, len, b'-');
+        return put(rt, out, len, b'-');
     }
     len
 }
 
 // A number in hexadecimal.
-fn put_hex(out: &mut Out, len: usize, value: u64, places: usize) -> usize {
+fn put_hex<R: Print + Eprint>(
+    rt: &R,
+    out: &mut Out,
+    len: usize,
+    value: u64,
+    places: usize,
+) -> usize {
     let mut digits = [0u8; 16];
     let k = io::hex(value, places, &mut digits);
-    put_digits(out, len, &digits[..k])
+    put_digits(rt, out, len, &digits[..k])
 }
 
 // A list of doubles, each as its 16 hexadecimal digits after a space.
-fn put_doubles(out: &mut Out, len: usize, list: &[f64]) -> usize {
+fn put_doubles<R: Print + Eprint>(rt: &R, out: &mut Out, len: usize, list: &[f64]) -> usize {
     let mut n = len;
     let mut i: usize = 0;
     while i < list.len() {
-        n = put(out, n, b' ');
-        n = put_hex(out, n, double::to_pattern(list[i]), 16);
+        n = put(rt, out, n, b' ');
+        n = put_hex(rt, out, n, double::to_pattern(list[i]), 16);
         i += 1;
     }
     n
 }
 
-fn put_byte(out: &mut Out, len: usize, b: u8) -> usize {
-    put_hex(out, len, b as u64, 2)
+fn put_byte<R: Print + Eprint>(rt: &R, out: &mut Out, len: usize, b: u8) -> usize {
+    put_hex(rt, out, len, b as u64, 2)
 }
 
 // Bytes as two hexadecimal digits each, after one space.
-fn put_bytes(out: &mut Out, len: usize, bytes: &[u8]) -> usize {
+fn put_bytes<R: Print + Eprint>(rt: &R, out: &mut Out, len: usize, bytes: &[u8]) -> usize {
     if bytes.len() == 0 {
         return len;
     }
-    let mut n = put(out, len, b' ');
+    let mut n = put(rt, out, len, b' ');
     let mut i: usize = 0;
     while i < bytes.len() {
-        n = put_byte(out, n, bytes[i]);
+        n = put_byte(rt, out, n, bytes[i]);
         i += 1;
     }
     n
 }
 
 // An edge that counts, and its turn.
-fn put_entry(out: &mut Out, len: usize, entry: u8) -> usize {
-    let n = put_decimal(out, len, (entry / 2) as u64);
+fn put_entry<R: Print + Eprint>(rt: &R, out: &mut Out, len: usize, entry: u8) -> usize {
+    let n = put_decimal(rt, out, len, (entry / 2) as u64);
     if entry % 2 == 0 {
-        return put_next(out, n, UP);
+        return put_next(rt, out, n, UP);
     }
-    put_next(out, n, DOWN)
+    put_next(rt, out, n, DOWN)
 }
 
-fn put_entries(out: &mut Out, len: usize, entries: &[u8]) -> usize {
+fn put_entries<R: Print + Eprint>(rt: &R, out: &mut Out, len: usize, entries: &[u8]) -> usize {
     let mut n = len;
     let mut i: usize = 0;
     while i < entries.len() {
-        n = put_entry(out, n, entries[i]);
+        n = put_entry(rt, out, n, entries[i]);
         i += 1;
     }
     n

@@ -2,7 +2,7 @@
 use crate::word::{NONE, REFUSED, UNCLEAR};
 use refusal::Refusal;
 
-#[derive(Drop)]
+#[derive(Clone, Copy)]
 pub struct Reply {
     pub first: usize,
     pub second: usize,

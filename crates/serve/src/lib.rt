@@ -17,38 +17,47 @@ ghost use Rattle.serve.specs.Parts.{points_found, Explains};
 
 use point::Point;
 use points::{Listed, points_of};
+use std::fs::Files;
+use std::io::{Eprint, Print};
 use system::files::Held;
 use text::TEXT;
 
 // Reads zone.trk, then release.trk, of the working folder, and prints the places of the releases, or why there are none.
 // The zone is judged before the release file is opened.
-pub fn desk() {
+pub fn desk<R: Files + Print + Eprint>(rt: &R) {
     let mut bytes = files::room();
-    let zone = system::files::bytes_of(b"zone.trk", &mut bytes);
+    let zone = system::files::bytes_of(rt, "zone.trk", &mut bytes);
     if text::is_good(zone, &bytes) {
-        return opened(zone, &bytes);
+        return opened(rt, zone, &bytes);
     }
-    unopened(zone, &bytes)
+    unopened(rt, zone, &bytes)
 }
 
 // A good zone is told of with the releases.
-fn opened(zone: Held, zone_bytes: &[u8]) {
+fn opened<R: Files + Print + Eprint>(rt: &R, zone: Held, zone_bytes: &[u8]) {
     let mut bytes = files::room();
-    let releases = system::files::bytes_of(b"release.trk", &mut bytes);
-    tell(zone, zone_bytes, releases, &bytes);
+    let releases = system::files::bytes_of(rt, "release.trk", &mut bytes);
+    tell(rt, zone, zone_bytes, releases, &bytes);
 }
 
 // Of any other zone the same is told whatever the releases are.
-fn unopened(zone: Held, zone_bytes: &[u8])
+fn unopened<R: Print + Eprint>(rt: &R, zone: Held, zone_bytes: &[u8])
     requires { is_good (found zone zone_bytes.now) ≡ false }
 {
-    tell(zone, zone_bytes, Held::Unreadable, zone_bytes);
+    tell(rt, zone, zone_bytes, Held::Unreadable, zone_bytes);
 }
 
-fn tell(zone: Held, zone_bytes: &[u8], releases: Held, release_bytes: &[u8]) {
+fn tell<R: Print + Eprint>(
+    rt: &R,
+    zone: Held,
+    zone_bytes: &[u8],
+    releases: Held,
+    release_bytes: &[u8],
+) {
     let mut out = [0u8; TEXT];
     let n = text::text_of(zone, zone_bytes, releases, release_bytes, &mut out);
     print(
+        rt,
         zone,
         zone_bytes,
         releases,
@@ -58,50 +67,78 @@ fn tell(zone: Held, zone_bytes: &[u8], releases: Held, release_bytes: &[u8]) {
 }
 
 // Prints the text of what was found, which is asked of its caller.
-fn print(zone: Held, zone_bytes: &[u8], releases: Held, release_bytes: &[u8], text: &[u8])
+fn print<R: Print + Eprint>(
+    rt: &R,
+    zone: Held,
+    zone_bytes: &[u8],
+    releases: Held,
+    release_bytes: &[u8],
+    text: &[u8],
+)
     requires { text.now ≡ printed (found zone zone_bytes.now) (found releases release_bytes.now) }
 {
-    system::write(text);
+    system::write(rt, text);
 }
 
 // Reads the two files likewise, and prints why each release has its place, after the desk's header; or, as the desk does, why there are no places.
-pub fn why() {
+pub fn why<R: Files + Print + Eprint>(rt: &R) {
     let mut zone_bytes = files::room();
-    let zone = system::files::bytes_of(b"zone.trk", &mut zone_bytes);
+    let zone = system::files::bytes_of(rt, "zone.trk", &mut zone_bytes);
     if text::is_good(zone, &zone_bytes) {
-        return asked(zone, &zone_bytes);
+        return asked(rt, zone, &zone_bytes);
     }
-    unopened(zone, &zone_bytes)
+    unopened(rt, zone, &zone_bytes)
 }
 
 // A good zone is explained with the releases.
-fn asked(zone: Held, zone_bytes: &[u8])
+fn asked<R: Files + Print + Eprint>(rt: &R, zone: Held, zone_bytes: &[u8])
     requires { is_good (found zone zone_bytes.now) ≡ true }
 {
     let mut bytes = files::room();
-    let releases = system::files::bytes_of(b"release.trk", &mut bytes);
-    explain(zone, zone_bytes, releases, &bytes);
+    let releases = system::files::bytes_of(rt, "release.trk", &mut bytes);
+    explain(rt, zone, zone_bytes, releases, &bytes);
 }
 
 // Reads the corners of a good zone.
-fn explain(zone: Held, zone_bytes: &[u8], releases: Held, release_bytes: &[u8])
+fn explain<R: Print + Eprint>(
+    rt: &R,
+    zone: Held,
+    zone_bytes: &[u8],
+    releases: Held,
+    release_bytes: &[u8],
+)
     requires { is_good (found zone zone_bytes.now) ≡ true }
 {
     let mut list = points::room();
     match points_of(zone, zone_bytes, &mut list) {
-        Listed::Points(n) => explain_in(zone, zone_bytes, releases, release_bytes, &list[..2 * n]),
-        Listed::None => unexplained(zone, zone_bytes, releases, release_bytes),
+        Listed::Points(n) => explain_in(
+            rt,
+            zone,
+            zone_bytes,
+            releases,
+            release_bytes,
+            &list[..2 * n],
+        ),
+        Listed::None => unexplained(rt, zone, zone_bytes, releases, release_bytes),
     }
 }
 
 // Reads the releases, in a good zone of these corners.
-fn explain_in(zone: Held, zone_bytes: &[u8], releases: Held, release_bytes: &[u8], corners: &[f64])
+fn explain_in<R: Print + Eprint>(
+    rt: &R,
+    zone: Held,
+    zone_bytes: &[u8],
+    releases: Held,
+    release_bytes: &[u8],
+    corners: &[f64],
+)
     requires { (is_good (found zone zone_bytes.now) ≡ true) × (points_found (found zone zone_bytes.now) ≡ answers corners.now) }
 {
     let mut list = points::room();
     match points_of(releases, release_bytes, &mut list) {
         Listed::Points(n) => {
             explain_all(
+                rt,
                 zone,
                 zone_bytes,
                 releases,
@@ -110,20 +147,27 @@ fn explain_in(zone: Held, zone_bytes: &[u8], releases: Held, release_bytes: &[u8
                 &list[..2 * n],
             )
         }
-        Listed::None => unexplained(zone, zone_bytes, releases, release_bytes),
+        Listed::None => unexplained(rt, zone, zone_bytes, releases, release_bytes),
     }
 }
 
 // Where there is no place to explain, the desk's own text is all.
-fn unexplained(zone: Held, zone_bytes: &[u8], releases: Held, release_bytes: &[u8])
+fn unexplained<R: Print + Eprint>(
+    rt: &R,
+    zone: Held,
+    zone_bytes: &[u8],
+    releases: Held,
+    release_bytes: &[u8],
+)
     requires { explained (found zone zone_bytes.now) (found releases release_bytes.now)
         ≡ printed (found zone zone_bytes.now) (found releases release_bytes.now) ∷ [] }
 {
-    tell(zone, zone_bytes, releases, release_bytes);
+    tell(rt, zone, zone_bytes, releases, release_bytes);
 }
 
 // The header, and then a line for each release, until one is not written.
-fn explain_all(
+fn explain_all<R: Print + Eprint>(
+    rt: &R,
     zone: Held,
     zone_bytes: &[u8],
     releases: Held,
@@ -134,7 +178,7 @@ fn explain_all(
     requires { Explains (found zone zone_bytes.now) (found releases release_bytes.now) corners.now points.now }
 {
     let n = points.len() / 2;
-    if !print_header(zone, zone_bytes, releases, release_bytes, n) {
+    if !print_header(rt, zone, zone_bytes, releases, release_bytes, n) {
         return;
     }
     let mut i: usize = 0;
@@ -143,7 +187,16 @@ fn explain_all(
             x: points[2 * i],
             y: points[2 * i + 1],
         };
-        if !print_reason(zone, zone_bytes, releases, release_bytes, i + 1, corners, p) {
+        if !print_reason(
+            rt,
+            zone,
+            zone_bytes,
+            releases,
+            release_bytes,
+            i + 1,
+            corners,
+            p,
+        ) {
             return;
         }
         i += 1;
@@ -151,7 +204,8 @@ fn explain_all(
 }
 
 // Prints the desk's header, which is the first piece.
-fn print_header(
+fn print_header<R: Print + Eprint>(
+    rt: &R,
     zone: Held,
     zone_bytes: &[u8],
     releases: Held,
@@ -163,6 +217,7 @@ fn print_header(
     let mut out = [0u8; TEXT];
     let n = text::put_header(&mut out, many);
     print_piece(
+        rt,
         zone,
         zone_bytes,
         releases,
@@ -173,7 +228,8 @@ fn print_header(
 }
 
 // Prints the line of a release, which stands behind the header and those before it.
-fn print_reason(
+fn print_reason<R: Print + Eprint>(
+    rt: &R,
     zone: Held,
     zone_bytes: &[u8],
     releases: Held,
@@ -188,6 +244,7 @@ fn print_reason(
     let mut out = [0u8; TEXT];
     let n = reasons::line_of(release, corners, p, &mut out);
     print_piece(
+        rt,
         zone,
         zone_bytes,
         releases,
@@ -198,7 +255,8 @@ fn print_reason(
 }
 
 // Prints one piece of what is printed, and answers whether it was written: nothing may follow one that was not.
-fn print_piece(
+fn print_piece<R: Print + Eprint>(
+    rt: &R,
     zone: Held,
     zone_bytes: &[u8],
     releases: Held,
@@ -208,5 +266,5 @@ fn print_piece(
 ) -> bool
     requires { text.now ≡ get_or (explained (found zone zone_bytes.now) (found releases release_bytes.now)) i [] }
 {
-    system::write(text)
+    system::write(rt, text)
 }

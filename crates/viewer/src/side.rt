@@ -6,8 +6,7 @@ use crate::bytes::point_of;
 use geometry::answer::Side;
 
 // The side of r against the line from p to q, each coordinate by its pattern: 0, 1, 2 for -1, 0, +1; or 103.
-#[unsafe(no_mangle)]
-pub extern "C" fn ghomxarin_side(px: u64, py: u64, qx: u64, qy: u64, rx: u64, ry: u64) -> u32
+pub fn ghomxarin_side(px: u64, py: u64, qx: u64, qy: u64, rx: u64, ry: u64) -> u32
     ensures { SideEntrySays px py qx qy rx ry result }
 {
     let p = point_of(px, py);

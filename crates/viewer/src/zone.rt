@@ -23,8 +23,7 @@ fn zeros() -> [f64; ROOM]
 
 // Whether the point is outside the zone, on its border or inside: 0, 1, 2; or 105, 104, 101, 103, the first that fits.
 // The length is judged before a corner is read.
-#[unsafe(no_mangle)]
-pub extern "C" fn ghomxarin_zone(px: u64, py: u64, corners: &[u8]) -> u32
+pub fn ghomxarin_zone(px: u64, py: u64, corners: &[u8]) -> u32
     ensures { ZoneEntrySays px py corners.now result }
 {
     if corners.len() % CORNER != 0 {

@@ -1,6 +1,6 @@
 // The telephone's program: reads zone.trk and release.trk of the working folder, and prints why each release has its place.
 #![tactic(auto)]
 
-fn main() {
-    serve::why();
+fn main(rt: HostRuntime) {
+    serve::why(&rt);
 }
