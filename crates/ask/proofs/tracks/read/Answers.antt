@@ -1,0 +1,11 @@
+-- `ask::tracks::read` is safe: the list has as many doubles as are lent. Assumes nothing.
+use mathlib.Core.Path.{sym}
+use native.Mathlib.Omega.{arith}
+use lib.Seq.{length-take-le}
+use borrow.Author.Rules.{rules}
+use borrow.Author.Rules.{rules}
+use Rattle.ask.proofs.tracks.read.Goals as goal
+
+pub slice_bounds-read-end-2 : goal.slice_bounds-read-end-2
+slice_bounds-read-end-2 c =
+    sym (length-take-le _ _ (omega arith))
