@@ -7,10 +7,11 @@ that a `pub use` hands on. A form of item that is not read here is an error, so 
 import re
 
 CRATE = re.compile(r"^(\w+)(?: staticlib)?:", re.MULTILINE)
+FOR_C = re.compile(r"^(\w+) staticlib: (\w+)", re.MULTILINE)
 COMMENT = re.compile(r"//[^\n]*")
 MODULE = re.compile(r"^(pub )?mod (\w+);", re.MULTILINE)
 HANDED_ON = re.compile(r"^pub use ([^;]*);", re.MULTILINE)
-FUNCTION = re.compile(r'^(pub )?(?:extern "C" )?fn (\w+)\(([^()]*)\)\s*(?:-> ([^{]*?))?\s*(?=\{|requires\b|ensures\b)', re.MULTILINE)
+FUNCTION = re.compile(r'^(pub )?(?:extern "C" )?fn (\w+)(?:<[^()]*?>)?\(([^()]*)\)\s*(?:-> ([^{]*?))?\s*(?=\{|requires\b|ensures\b)', re.MULTILINE)
 CLAUSE = re.compile(r"\s*(requires|ensures)\b[^{]*\{")
 TYPE = r"^pub (?:struct|enum|const|type) {}\b"
 ITEM = re.compile(r'(pub )?(mod \w+;|use |(extern "C" )?fn |struct |enum |const \w+:|type )|ghost use |#!?\[|[{}()]')  # how a line can start
@@ -19,6 +20,18 @@ USE = re.compile(r"^(?:ghost )?use (\S+)\.\{([^}]*)\}", re.MULTILINE)
 PROMISE = re.compile(r"^(abbrev pub|pub record) (\w+Says)\b", re.MULTILINE)
 LAW = re.compile(r"^( *)(?:pub )?(\S+_fixed) :(.*?)(?=^ *\2 |^ *unfolding |\Z)", re.MULTILINE | re.DOTALL)
 STATEMENT = re.compile(r"((?:\([^()]*\)\s*)+)→ Fixes \((?:λ \([^()]*\)\. )?(\w+Says)\b([\w\s().]*)\)")
+
+# Calls that read or write: no contract can speak of all that they move, so theirs fixes no result and is no named promise.
+MOVING = {
+    "serve::desk",
+    "serve::why",
+    "system::bytes_of",
+    "system::filled",
+    "system::read",
+    "system::tell",
+    "system::write",
+    "system::write_to",
+}
 
 
 class Call:
@@ -31,6 +44,12 @@ class Call:
     def __str__(self):
         return f"{self.crate}::{self.name}"
 
+    def is_promised(self):
+        return str(self) not in MOVING
+
+    def requires(self):
+        return any(kind == "requires" for kind, _, _ in self.clauses)
+
     def ensured(self):
         """Where its one ensures stands in the file, or None."""
         kinds = [kind for kind, _, _ in self.clauses]
@@ -38,7 +57,7 @@ class Call:
 
     def promise(self):
         """The promise that its contract cites, as it has to."""
-        if any(kind == "requires" for kind, _, _ in self.clauses):
+        if self.requires():
             raise Wrong("it has a requires")
         if not self.ensured():
             raise Wrong(f"it has {len(self.clauses) or 'no'} ensures")
@@ -67,6 +86,11 @@ class Wrong(Exception):
 
 def crates_in(root):
     return CRATE.findall((root / "crates.txt").read_text())
+
+
+def promising(root, crate):
+    """The crate that has the promises of a crate's calls: itself, or of a static library the crate that it hands on to C."""
+    return dict(FOR_C.findall((root / "crates.txt").read_text())).get(crate, crate)
 
 
 def calls_in(root):
