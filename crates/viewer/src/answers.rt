@@ -12,6 +12,7 @@ use sum::answer::Sign;
 const BASE: u32 = 100;
 
 // 0, 1, 2 for -1, 0, +1.
+#[tactic(auto, unfolding(crate::specs::Entries::sign_answer))]
 pub fn sign_answer(s: Sign) -> u32
     ensures { result ≡ sign_answer (sign_number s) }
 {
@@ -23,6 +24,7 @@ pub fn sign_answer(s: Sign) -> u32
 }
 
 // 0, 1, 2 for outside, border, inside.
+#[tactic(auto, unfolding(geometry::specs::Zone::place_said))]
 pub fn place_answer(place: Place) -> u32
     ensures { result ≡ place_number (place_said place) }
 {
