@@ -6,7 +6,7 @@ use mathlib.Core.Path.{◌≡◌, sym, ap, ap₂, ◌∙◌, subst}
 use mathlib.Core.Logic.{inl, inr}
 use Prim.Native.Nat.{ℕ, ◌+◌, ◌-◌, ◌*◌, ◌^◌, ◌≤◌, ◌<◌, ◌∣◌}
 use native.Mathlib.Nat.{le_trans, le_of_eq, le_of_lt, lt_of_le_of_lt, le_of_mul-le-mul_right, lt_of_mul-lt-mul_right}
-use native.Mathlib.Nat.{lt_irrefl, zero-lt-suc, add_comm, add-mul, mul-sub, mul_comm, mul_assoc, mul_right_comm, mul-le-mul_right}
+use native.Mathlib.Nat.{lt_irrefl, zero-lt-suc, add_comm, mul_assoc, mul_right_comm, mul-le-mul_right}
 use native.Mathlib.Nat.{mul-one, eq_of_mul-eq-mul_right, dvd-add, dvd-sub, dvd-mul_left}
 use native.Mathlib.Omega.{arith}
 use lib.Pow.{pow-add, pow_pos, pow_mono}

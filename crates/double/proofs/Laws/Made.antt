@@ -10,13 +10,13 @@ use native.Mathlib.Omega.{arith}
 use lib.Dec.{T, leb, eqb, leb→le, ltb→lt}
 use lib.IntN.{ℤ, pos, negsuc, ◌*ℤ◌}
 use lib.Pow.{pow-add, pow_pos, pow-lt}
-use lib.Ieee.{Float, Format, binary64, prec, emax, low, unlike, round, mul, of_int, in_float, fits, of_fields, of_bits}
+use lib.Ieee.{Float, Format, binary64, prec, emax, low, unlike, round, mul, of_int, in_float, of_fields, of_bits}
 use lib.Ieee.Bits.{of_bits-fits}
 use lib.Ieee.Exact.{HasValue, odd_sign}
 use lib.Ieee.Scale.{overflow, round_same}
 use borrow.Author.Tests.{lt-leb, ne_eqb}
 use Rattle.whole.proofs.Laws.Parts.{up, dn, mul_parts}
-use Rattle.double.specs.Worth.{sign_bit, mag, of_units, double_of}
+use Rattle.double.specs.Worth.{of_units, double_of}
 use Rattle.double.proofs.Laws.Digits.{rep_of}
 use Rattle.double.proofs.Laws.Rounding.{rn, rn_kept}
 use Rattle.double.proofs.Laws.Units.{Known, prec_pos, value_known, of_units_fits, of_units_value}

@@ -2,7 +2,6 @@
 use mathlib.Core.Path.{sym, subst, ◌∙◌}
 use lib.Dec.{T}
 use lib.Ieee.{binary64, fits}
-use borrow.Author.Rules.{rules}
 use Rattle.point.proofs.Laws.Accepted.{accepted_is}
 use Rattle.point.proofs.accepted.Goals as goal
 

@@ -2,7 +2,6 @@
 use mathlib.Core.Path.{sym, subst, ◌∙◌}
 use lib.Dec.{T}
 use lib.Ieee.{binary64, fits}
-use borrow.Author.Rules.{rules}
 use Rattle.point.proofs.Laws.Accepted.{accepted_high_is}
 use Rattle.point.proofs.accepted_high.Goals as goal
 

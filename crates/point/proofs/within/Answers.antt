@@ -1,5 +1,4 @@
 -- `point::within` meets its contract: by the first comparison's outcome. Assumes nothing.
-use borrow.Author.Rules.{rules}
 use Rattle.point.specs.Parts.{within_of}
 use Rattle.point.proofs.within.Goals as goal
 

@@ -2,7 +2,6 @@
 use mathlib.Core.Path.{sym, subst}
 use lib.Dec.{T}
 use lib.Ieee.{binary64, fits}
-use borrow.Author.Rules.{rules}
 use Rattle.double.specs.Apart.{said}
 use Rattle.double.proofs.Laws.Pattern.{number_of_itself}
 use Rattle.double.proofs.Laws.Apart.{nan_refused, infinite_refused, subnormal_parted, normal_parted}

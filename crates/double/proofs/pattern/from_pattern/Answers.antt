@@ -1,7 +1,6 @@
 -- `double::from_pattern` meets its contract: 0 / 0 is the NaN, and any other pattern is not one. Assumes nothing.
 use lib.Ieee.{div, of_bits}
 use Rattle.double.proofs.Laws.Pattern.{nan_pattern, number_pattern}
-use borrow.Author.Rules.{rules}
 use Rattle.double.proofs.pattern.from_pattern.Goals as goal
 
 pub returns-then-bits-gt-INFINITY : goal.returns-then-bits-gt-INFINITY

@@ -1,5 +1,4 @@
 -- `double::to_pattern` meets its contract: only a NaN differs from itself. Assumes nothing.
-use borrow.Author.Rules.{rules}
 use Rattle.double.proofs.Laws.Pattern.{nan_bits_lem, number_of_itself}
 use Rattle.double.proofs.pattern.to_pattern.Goals as goal
 

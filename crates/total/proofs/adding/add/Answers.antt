@@ -1,6 +1,6 @@
 -- `total::add` meets its contract: what `put` changes is the double's worth, and owning the words tells that each has 64 bits.
 -- Assumes nothing.
-use Rattle.std.proofs.Common.{◌≡◌, true, T, sym, ◌∙◌, subst, rules}
+use Rattle.std.proofs.Common.{◌≡◌, true, T, sym, ◌∙◌, subst}
 use lib.Ieee.{binary64, fits}
 use lib.Ieee.Scale.{finite}
 use Rattle.double.proofs.Laws.Apart.{Means, taken_means, taken_finite, taken_refused}

@@ -1,5 +1,5 @@
 -- `total::words::add_words` meets its contract: what goes over the two words is 0 or 1, and a 1 is added behind them. Assumes nothing.
-use Rattle.std.proofs.Common.{◌≡◌, ◌∙◌, arith, length-set, rules}
+use Rattle.std.proofs.Common.{◌≡◌, ◌∙◌, arith, length-set}
 use Rattle.total.specs.Words.{base}
 use Rattle.total.proofs.Laws.Changed.{added_ends, added_goes}
 use Rattle.total.proofs.words.add_words.Goals as goal

@@ -1,7 +1,6 @@
 -- `total::words::borrow` meets its contract. The loop's invariant: 1 is still to be taken away at word i. Assumes nothing.
-use Rattle.std.proofs.Common.{◌≡◌, ◌+◌, ◌-◌, ◌^◌, ◌≤◌, length, get_or, refl, arith, length-set, rules}
+use Rattle.std.proofs.Common.{◌≡◌, ◌+◌, ◌-◌, ◌^◌, ◌≤◌, length}
 use Rattle.total.specs.Words.{base, value_of}
-use Rattle.total.proofs.Laws.Changed.{borrow_ends, borrow_goes, changed_taken, changed_under}
 use Rattle.total.proofs.words.borrow.Given as goal
 
 abbrev pub invariant-loop-i : goal.invariant-loop-i

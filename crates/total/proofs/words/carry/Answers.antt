@@ -1,7 +1,7 @@
 -- `total::words::carry` meets its contract. The loop's invariant: 1 is still to be added at word i, and that is 1 at the lowest.
 -- Assumes nothing.
-use Rattle.std.proofs.Common.{◌≡◌, ◌+◌, ◌-◌, ◌^◌, ◌≤◌, length, get_or, ◌∙◌, arith, length-set, rules}
-use Rattle.total.specs.Words.{base, value_of}
+use Rattle.std.proofs.Common.{◌≡◌, ◌+◌, get_or, ◌∙◌, arith, length-set}
+use Rattle.total.specs.Words.{base}
 use Rattle.total.proofs.Laws.Changed.{carry_ends, carry_goes, changed_added, changed_over}
 use Rattle.total.proofs.words.carry.Goals as goal
 

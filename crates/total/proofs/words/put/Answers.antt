@@ -1,6 +1,6 @@
 -- `total::words::put` meets its contract: the two words stand behind exponent / 64 others, and the sign bit says which way they go.
 -- Assumes nothing.
-use Rattle.std.proofs.Common.{◌/◌, ◌≤◌, length, arith, rules}
+use Rattle.std.proofs.Common.{◌/◌, ◌≤◌, length, arith}
 use Rattle.total.proofs.Laws.Changed.{put_room, put_added, put_taken}
 use Rattle.total.proofs.words.put.Goals as goal
 

@@ -1,6 +1,6 @@
 -- `total::words::subtract_words` meets its contract: what goes over the two words is 0 or 1, and a 1 is taken away behind them.
 -- Assumes nothing.
-use Rattle.std.proofs.Common.{◌≡◌, ◌∙◌, arith, length-set, rules}
+use Rattle.std.proofs.Common.{◌≡◌, ◌∙◌, arith, length-set}
 use Rattle.total.specs.Words.{base}
 use Rattle.total.proofs.Laws.Changed.{taken_ends, taken_goes}
 use Rattle.total.proofs.words.subtract_words.Goals as goal

@@ -1,5 +1,5 @@
 -- `word64::last_of_product` meets its contract: by the halves of both words. Assumes nothing.
-use Rattle.std.proofs.Common.{◌∙◌, arith, rules}
+use Rattle.std.proofs.Common.{◌∙◌, arith}
 use Rattle.word64.proofs.Laws.Product.{halves_fit, product_by_halves}
 use Rattle.word64.proofs.words.last_of_product.Goals as goal
 

@@ -1,5 +1,5 @@
 -- `words::magnitude` meets its contract: by its sign. Assumes nothing.
-use Rattle.std.proofs.Common.{◌≡◌, ℕ, ◌+◌, ◌^◌, ◌<◌, ◌≤◌, T, ℤ, pos, negsuc, ◌+ℤ◌, ◌-ℤ◌, nat_abs, sym, ap, ◌∙◌, subst, arith, w64, rules}
+use Rattle.std.proofs.Common.{◌≡◌, ℕ, ◌+◌, ◌^◌, ◌<◌, ◌≤◌, T, ℤ, pos, negsuc, ◌+ℤ◌, ◌-ℤ◌, nat_abs, sym, ap, ◌∙◌, subst, arith, w64}
 use lib.Signed.{mag, non_neg}
 use mir.ValLaws.{to_z-of_z}
 use Rattle.word64.proofs.Laws.Signed.{again, below_zero, not_below, one_more_fits, turned_fits, turned_again}

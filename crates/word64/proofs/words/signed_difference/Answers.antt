@@ -1,5 +1,5 @@
 -- `word64::signed_difference` meets its contract: by the half that the wrapped difference lies in. Assumes nothing.
-use Rattle.std.proofs.Common.{◌-◌, ◌^◌, sym, subst, arith, w64, rules}
+use Rattle.std.proofs.Common.{◌-◌, ◌^◌, sym, subst, arith, w64}
 use mir.ValLaws.{to_z_pos}
 use Rattle.word64.specs.Word.{SignedDifferenceSays}
 use Rattle.word64.proofs.Laws.Signed.{word_negated_fits, one_less_fits, one_less_again}
