@@ -1,5 +1,5 @@
 -- What inner functions promise of one fault, one sum of two and the run on a list that is not refused: believed by no reader.
-use Rattle.std.specs.Prelude.{ℕ, ◌≤◌, ◌<◌, ◌+◌, ◌-◌, ◌≡◌, List, T, Float, not, ◌+ℤ◌, ℤ}
+use Rattle.std.specs.Prelude.{ℕ, ◌≤◌, ◌<◌, ◌≡◌, List, T, Float, not, ◌+ℤ◌}
 use Rattle.std.specs.Float.{binary64}
 use Rattle.std.specs.Float.Ieee.Scale.{finite}
 use Rattle.refusal.specs.Outcome.{Outcome, answers, refuses}
@@ -9,7 +9,7 @@ use Rattle.double.specs.Worth.{worth, sign_bit, mag}
 use Rattle.sum.specs.Refused.{checked}
 use Rattle.sum.specs.declared.answer.Ran.{Ran}
 use Rattle.sum.specs.Step.{rounded, roundoff}
-use Rattle.sum.specs.Run.{ran_from, after}
+use Rattle.sum.specs.Run.{ran_from}
 
 -- where there is nothing else to answer
 abbrev pub fault_of : List Float → Outcome Unit

@@ -9,7 +9,6 @@ use Rattle.double.proofs.Laws.Units.{Real}
 use Rattle.point.specs.declared.Point.{Point}
 use Rattle.point.specs.Spot.{spot_of}
 use Rattle.point.proofs.Laws.Worths.{RealPoint, le_worth, lt_worth, eq_worth}
-use Rattle.pieces.specs.Meeting as words
 use Rattle.pieces.specs.Parts.{lesser, greater, common, range, is_in, on_line, by_end, is_dot}
 use Rattle.meeting.specs.Meet.{edge_of, meeting_said}
 use Rattle.meeting.specs.Parts.{lesser_of, greater_of, common_of, range_of, on_line_by, is_in_by, by_end_by, is_dot_by}

@@ -15,7 +15,7 @@ use Rattle.ground.specs.Listing.{turned_round}
 use Rattle.ground.proofs.Laws.Edges.{side_round}
 use Rattle.pieces.specs.Place.{at}
 use Rattle.pieces.specs.Meeting.{LiesOn}
-use Rattle.pieces.specs.Parts.{range, lesser, greater}
+use Rattle.pieces.specs.Parts.{lesser, greater}
 use Rattle.pieces.proofs.Laws.Places.{on_from, on_turned}
 use Rattle.pieces.proofs.Laws.Words.{flipped, flipped_edge, on_flipped}
 use Rattle.pieces.proofs.Laws.Ranges.{less-≤, ≤-refl, ≤-both, gap_nonneg, gap_positive}

@@ -8,7 +8,7 @@ use native.Mathlib.Omega.{arith}
 use lib.IntN.{ℤ, pos, ◌+ℤ◌, ◌-ℤ◌, ◌*ℤ◌}
 use Rattle.whole.specs.Order.{◌≤ᶻ◌, ◌<ᶻ◌}
 use Rattle.whole.proofs.Laws.Linear.{ints, int_rules}
-use Rattle.whole.proofs.Laws.Order.{equal, more, <-or-≤, mul_positive, cancel-≡}
+use Rattle.whole.proofs.Laws.Order.{<-or-≤, mul_positive, cancel-≡}
 use Rattle.ground.specs.Plane.{Spot}
 use Rattle.ground.specs.Edge.{Edge, side_of_edge}
 use Rattle.ground.specs.Listing.{turned_round}

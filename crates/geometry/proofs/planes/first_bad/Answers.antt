@@ -1,5 +1,4 @@
 -- `planes::first_bad` meets its contract: by the tests so far. Assumes nothing.
-use borrow.Author.Rules.{rules}
 use mathlib.Core.Path.{ap}
 use mathlib.Core.Bool.{not}
 use Rattle.geometry.proofs.Laws.Side.{refused_by, passed_by}

@@ -1,7 +1,6 @@
 -- `planes::plane` meets its contract: the first coordinate that is not accepted is refused, and otherwise the sum rule answers.
 -- Assumes nothing.
 use mathlib.Core.Path.{ap, ◌∙◌}
-use borrow.Author.Rules.{rules}
 use Rattle.refusal.specs.Outcome.{answers}
 use Rattle.point.specs.High.{HighAccepted}
 use Rattle.geometry.specs.Plane.{Counted, plane_said}

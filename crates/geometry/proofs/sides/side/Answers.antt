@@ -2,7 +2,6 @@
 -- Assumes nothing.
 use mathlib.Core.Path.{◌≡◌, ap, ◌∙◌}
 use mathlib.Core.Bool.{true, not}
-use borrow.Author.Rules.{rules}
 use Rattle.refusal.specs.Outcome.{answers}
 use Rattle.point.specs.Accepted.{accepted_of, Accepted}
 use Rattle.geometry.specs.Side.{said, Turned}

@@ -1,7 +1,6 @@
 -- `sides::sign` meets its contract: by what `side` promises. Assumes nothing.
 use mathlib.Core.Path.{sym, ap, subst, ◌∙◌}
 use lib.Dec.{T}
-use borrow.Author.Rules.{rules}
 use Rattle.point.specs.Accepted.{OfDoubles}
 use Rattle.geometry.specs.Side.{said}
 use Rattle.geometry.proofs.Laws.SignCalls.{sign_of_turn, sign_of_refused}

@@ -1,17 +1,11 @@
 -- `zones::counted` meets its contract. The loop's invariant: the counts are those of the edges from edge k on. Assumes nothing.
-use Prim.Native.Nat.{ℕ, ◌-◌, ◌≤◌}
-use mathlib.Core.Path.{◌≡◌, sym, ap, ap₂, subst, ◌∙◌}
-use native.Mathlib.Omega.{arith}
+use Prim.Native.Nat.{◌≤◌}
+use mathlib.Core.Path.{◌≡◌}
 use lib.ListN.{drop}
-use borrow.Author.Rules.{rules}
-use Rattle.point.specs.Accepted.{Accepted}
 use Rattle.point.specs.Spot.{spot_of}
-use Rattle.geometry.specs.Zone.{corners_of, corner_at, next_of}
-use Rattle.ground.specs.Edge.{edge, edges_of, is_up, is_down}
-use Rattle.geometry.specs.Parts.{crossing_of}
-use Rattle.geometry.specs.Parts.{with_edge, counts_of}
-use Rattle.geometry.specs.declared.zones.Counts.{Counts}
-use Rattle.geometry.proofs.Laws.Zone.{next_inside, counts_end, counts_before, count_few}
+use Rattle.geometry.specs.Zone.{corners_of}
+use Rattle.ground.specs.Edge.{edges_of}
+use Rattle.geometry.specs.Parts.{counts_of}
 use Rattle.geometry.proofs.zones.counted.Given as goal
 
 abbrev pub invariant-loop-k : goal.invariant-loop-k

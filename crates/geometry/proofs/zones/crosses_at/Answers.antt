@@ -2,9 +2,7 @@
 use mathlib.Core.Path.{◌≡◌, sym, ap, ap₂, subst, ◌∙◌}
 use Prim.Native.Nat.{◌+◌, ◌*◌}
 use lib.Dec.{T}
-use mathlib.Core.Bool.{Bool}
 use lib.Ieee.{Float, le, lt}
-use borrow.Author.Rules.{rules}
 use Rattle.point.specs.declared.Point.{Point}
 use Rattle.point.specs.Spot.{spot_of}
 use Rattle.geometry.specs.Zone.{corner_at}

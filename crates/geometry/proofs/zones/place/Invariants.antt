@@ -1,16 +1,8 @@
 -- `zones::place` meets its contract. The loop's invariant: the walk from edge k on answers what the whole walk does. Assumes nothing.
-use Prim.Native.Nat.{ℕ, ◌-◌, ◌≤◌, ◌<◌}
-use mathlib.Core.Path.{◌≡◌, sym, ap, subst, ◌∙◌}
-use mathlib.Core.Logic.{inl, inr}
-use native.Mathlib.Omega.{arith}
-use borrow.Author.Rules.{rules}
-use Rattle.point.specs.Accepted.{Accepted}
-use Rattle.point.specs.Spot.{spot_of}
-use Rattle.geometry.specs.Zone.{place_in, corners_of, corner_at, next_of, place_said}
-use Rattle.ground.specs.Edge.{edge, edges_of, on_edge}
-use Rattle.ground.specs.Zone.{border}
-use Rattle.geometry.proofs.Laws.Zone.{next_inside, off_of, walk_from, walk_start, walk_here, walk_later, walk_end}
-use Rattle.geometry.proofs.Laws.Zone.{off_inside, off_outside}
+use Prim.Native.Nat.{◌-◌, ◌≤◌}
+use mathlib.Core.Path.{◌≡◌}
+use Rattle.geometry.specs.Zone.{place_in}
+use Rattle.geometry.proofs.Laws.Zone.{walk_from}
 use Rattle.geometry.proofs.zones.place.Given as goal
 
 abbrev pub invariant-loop-k : goal.invariant-loop-k

@@ -1,7 +1,5 @@
 -- `zones::zone` meets its contract: the refusals in their order, and then the place. Assumes nothing.
 use mathlib.Core.Path.{sym, ap, ◌∙◌}
-use borrow.Author.Rules.{rules}
-use borrow.Author.Tests.{not-true, not-false}
 use Rattle.geometry.specs.Zone.{zone_said}
 use Rattle.geometry.specs.Parts.{fault_said}
 use Rattle.geometry.proofs.Laws.Zone.{zone_odd, zone_small, zone_large, zone_x, zone_y, zone_corner, zone_place, zone_zoned}

@@ -5,7 +5,6 @@ use Rattle.meeting.specs.Meet.{edge_of}
 use Rattle.meeting.specs.Parts.{sides_said}
 use Rattle.meeting.specs.declared.sided.Sides.{Sides}
 use Rattle.meeting.proofs.Laws.Found.{far_found}
-use borrow.Author.Rules.{rules}
 use Rattle.meeting.proofs.deciding.by_both.Goals as goal
 
 pub side_of-z-requires : goal.side_of-z-requires

@@ -1,6 +1,5 @@
 -- `deciding::by_end` meets its contract: by the tests so far. Assumes nothing.
 use mathlib.Core.Path.{sym, ◌∙◌}
-use borrow.Author.Rules.{rules}
 use Rattle.meeting.proofs.deciding.by_end.Goals as goal
 
 pub returns-then-is_in-2 : goal.returns-then-is_in-2

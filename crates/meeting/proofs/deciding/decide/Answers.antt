@@ -5,7 +5,6 @@ use lib.Ieee.{lt}
 use Rattle.meeting.specs.Parts.{common_of}
 use Rattle.meeting.specs.declared.ranges.Range.{Range}
 use Rattle.meeting.proofs.Laws.Found.{boxes_found}
-use borrow.Author.Rules.{rules}
 use Rattle.meeting.proofs.deciding.decide.Goals as goal
 
 -- what the tests say of the ranges

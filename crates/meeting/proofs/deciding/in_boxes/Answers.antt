@@ -1,7 +1,6 @@
 -- `deciding::in_boxes` meets its contract: by which of the two are points. Assumes nothing.
 use mathlib.Core.Path.{sym, ◌∙◌}
 use Rattle.meeting.proofs.Laws.Found.{dots_found}
-use borrow.Author.Rules.{rules}
 use Rattle.meeting.proofs.deciding.in_boxes.Goals as goal
 
 pub returns-then-is_dot-2 : goal.returns-then-is_dot-2

@@ -9,7 +9,6 @@ use Rattle.pieces.specs.Meeting.{touching, apart}
 use Rattle.pieces.specs.Parts.{of_dot}
 use Rattle.meeting.specs.Meet.{edge_of}
 use Rattle.meeting.proofs.Laws.Found.{of_dot_found}
-use borrow.Author.Rules.{rules}
 use Rattle.meeting.proofs.deciding.of_dot.Goals as goal
 
 pub side_of-s-requires : goal.side_of-s-requires

@@ -5,7 +5,6 @@ use Rattle.meeting.specs.Meet.{edge_of, meeting_said}
 use Rattle.meeting.specs.Parts.{sides_said}
 use Rattle.meeting.specs.declared.sided.Sides.{Sides}
 use Rattle.meeting.proofs.Laws.Found.{from_real, to_real, on_line_found, by_end_found, long_found, opposed_found}
-use borrow.Author.Rules.{rules}
 use Rattle.meeting.proofs.deciding.of_long.Goals as goal
 
 pub side_of-u-requires : goal.side_of-u-requires

@@ -1,6 +1,5 @@
 -- `deciding::on_line` meets its contract: by the tests so far. Assumes nothing.
 use mathlib.Core.Path.{sym, ◌∙◌}
-use borrow.Author.Rules.{rules}
 use Rattle.meeting.proofs.deciding.on_line.Goals as goal
 
 pub returns-then-is_long : goal.returns-then-is_long

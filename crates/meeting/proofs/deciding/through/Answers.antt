@@ -5,7 +5,6 @@ use Rattle.meeting.specs.Meet.{edge_of}
 use Rattle.meeting.specs.Parts.{sides_said}
 use Rattle.meeting.specs.declared.sided.Sides.{Sides}
 use Rattle.meeting.proofs.Laws.Found.{near_found}
-use borrow.Author.Rules.{rules}
 use Rattle.meeting.proofs.deciding.through.Goals as goal
 
 pub side_of-w-requires : goal.side_of-w-requires

@@ -1,7 +1,5 @@
 -- `meetings::first_bad` meets its contract: by the tests so far. Assumes nothing.
 use mathlib.Core.Path.{sym, ◌∙◌}
-use borrow.Author.Tests.{not-true, not-false}
-use borrow.Author.Rules.{rules}
 use Rattle.meeting.proofs.meetings.first_bad.Goals as goal
 
 pub returns-then-not-accepted : goal.returns-then-not-accepted

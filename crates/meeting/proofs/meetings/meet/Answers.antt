@@ -6,7 +6,6 @@ use Rattle.point.specs.Accepted.{Accepted, OfDoubles}
 use Rattle.pieces.specs.Meeting as words
 use Rattle.meeting.specs.Meet.{said}
 use Rattle.meeting.proofs.Laws.Calls.{none_bad, meet_says, meet_path_from, meet_path_to, meet_crease_from, meet_crease_to, meet_passed}
-use borrow.Author.Rules.{rules}
 use Rattle.meeting.proofs.meetings.meet.Goals as goal
 
 pub returns-then-i-lt2 : goal.returns-then-i-lt2

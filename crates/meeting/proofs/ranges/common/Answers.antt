@@ -3,7 +3,6 @@ use mathlib.Core.Path.{ap₂, ◌∙◌}
 use lib.Ieee.{Float}
 use Rattle.meeting.specs.Parts.{lesser_of, greater_of}
 use Rattle.meeting.specs.declared.ranges.Range.{Range}
-use borrow.Author.Rules.{rules}
 use Rattle.meeting.proofs.ranges.common.Goals as goal
 
 pub returns : goal.returns

@@ -3,7 +3,6 @@ use Rattle.std.proofs.Common.{true, Float}
 use lib.Ieee.{binary64, fits}
 use mathlib.Core.Path.{◌≡◌, sym, subst}
 use lib.Dec.{T}
-use borrow.Author.Rules.{rules}
 use Rattle.point.specs.Accepted.{OfDoubles}
 use Rattle.point.proofs.Laws.Within.{accepted_within_lem}
 use Rattle.point.specs.declared.Point.{Point}

@@ -1,6 +1,5 @@
 -- `sum::look::judged` meets its contract: by the case of the look, and the two comparisons. Assumes nothing.
 use mathlib.Core.Path.{sym, ◌∙◌}
-use borrow.Author.Rules.{rules}
 use Rattle.sum.proofs.Laws.Look.{verdict_neither, verdict_positive, verdict_negative}
 use Rattle.sum.proofs.Laws.Look.{verdict_plus, verdict_minus, verdict_undecided}
 use Rattle.sum.proofs.look.judged.Goals as goal

@@ -1,5 +1,4 @@
 -- `sum::look::seen` meets its contract: each case of the entry has its law. Assumes nothing.
-use borrow.Author.Rules.{rules}
 use Rattle.sum.proofs.Laws.Tally.{seen_highest, seen_positive, seen_lowest, seen_negative, seen_zero}
 use Rattle.sum.proofs.look.seen.Goals as goal
 

@@ -1,9 +1,9 @@
 -- `sum::look::tallied` meets its contract. The loop's invariant: the tally is that of the entries from index i on. Assumes nothing.
-use Prim.Native.Nat.{ℕ, ◌-◌, ◌≤◌}
-use mathlib.Core.Path.{◌≡◌, ap, ◌∙◌}
+use Prim.Native.Nat.{ℕ, ◌-◌}
+use mathlib.Core.Path.{ap, ◌∙◌}
 use native.Mathlib.Omega.{arith}
 use mathlib.Core.Bool.{true, false}
-use lib.ListN.{length, drop, get_or}
+use lib.ListN.{drop, get_or}
 use lib.Ieee.{nan}
 use borrow.Author.Rules.{rules}
 use Rattle.sum.specs.Tally.{tally_of, seen_of}

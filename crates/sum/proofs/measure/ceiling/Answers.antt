@@ -1,8 +1,6 @@
 -- `sum::measure::ceiling` meets its contract: what first_fault finds says whether the list is refused; the two passes are the definition.
 -- Assumes nothing.
 use mathlib.Core.Path.{◌≡◌, sym, ap, ◌∙◌}
-use borrow.Author.Rules.{rules}
-use borrow.Author.Rules.{rules}
 use Rattle.sum.specs.Parts.{found, fault_of}
 use Rattle.sum.specs.declared.fault.Fault.TheVariants.{None}
 use Rattle.sum.proofs.Laws.Refused.{fault_none}

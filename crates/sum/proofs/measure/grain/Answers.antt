@@ -1,9 +1,9 @@
 -- `sum::measure::grain` meets its contract. The loop's invariant: g is the grain of the entries from index i on. The measure is i.
 -- Assumes nothing.
-use mathlib.Core.Path.{◌≡◌, ap, ap₂, ◌∙◌}
-use Prim.Native.Nat.{ℕ, ◌-◌, ◌≤◌, min}
+use mathlib.Core.Path.{ap, ap₂, ◌∙◌}
+use Prim.Native.Nat.{ℕ, ◌-◌, min}
 use lib.Arith.{le-zero}
-use lib.ListN.{length, drop}
+use lib.ListN.{drop}
 use borrow.Author.Rules.{rules}
 use Rattle.sum.specs.Ceiling.{grain_of}
 use Rattle.sum.proofs.Laws.Grain.{finite_at, grain_end, grain_turn}

@@ -1,12 +1,9 @@
 -- `sum::measure::grain` meets its contract. The loop's invariant: g is the grain of the entries from index i on. The measure is i.
 -- Assumes nothing.
-use mathlib.Core.Path.{◌≡◌, ap, ap₂, ◌∙◌}
-use Prim.Native.Nat.{ℕ, ◌-◌, ◌≤◌, min}
-use lib.Arith.{le-zero}
+use mathlib.Core.Path.{◌≡◌}
+use Prim.Native.Nat.{◌≤◌}
 use lib.ListN.{length, drop}
-use borrow.Author.Rules.{rules}
 use Rattle.sum.specs.Ceiling.{grain_of}
-use Rattle.sum.proofs.Laws.Grain.{finite_at, grain_end, grain_turn}
 use Rattle.sum.proofs.measure.grain.Given as goal
 
 abbrev pub invariant-loop-i : goal.invariant-loop-i

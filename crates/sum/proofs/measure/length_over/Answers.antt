@@ -4,7 +4,6 @@ use native.Mathlib.Omega.{arith}
 use lib.Count.{leading_le}
 use lib.Dec.{T}
 use lib.Ieee.{binary64, fits}
-use borrow.Author.Rules.{rules}
 use Rattle.double.proofs.Laws.Apart.{Means, apart_means}
 use Rattle.sum.proofs.Laws.Ceiling.{length_over_is, length_over_none}
 use Rattle.sum.proofs.measure.length_over.Goals as goal

@@ -1,5 +1,4 @@
 -- `sum::measure::parts_of` meets its contract: a finite double is not refused. Assumes nothing.
-use borrow.Author.Rules.{rules}
 use Rattle.sum.proofs.Laws.Grain.{parts_taken, parts_not_refused}
 use Rattle.sum.proofs.measure.parts_of.Goals as goal
 

@@ -4,8 +4,7 @@ use Prim.Native.Nat.{◌≤◌}
 use native.Mathlib.Nat.{le_trans, le_of_eq}
 use native.Mathlib.Omega.{arith}
 use lib.Dec.{T}
-use lib.Ieee.{binary64, fits}
-use borrow.Author.Rules.{rules}
+use lib.Ieee.{binary64}
 use Rattle.double.proofs.Laws.Units.{Real}
 use Rattle.sum.specs.Ceiling.{digits}
 use Rattle.sum.proofs.Laws.Ceiling.{length_most}

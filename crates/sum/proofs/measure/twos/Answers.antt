@@ -4,7 +4,6 @@ use native.Mathlib.Omega.{arith}
 use lib.Count.{trailing_le}
 use lib.Dec.{T}
 use lib.Ieee.{binary64, fits}
-use borrow.Author.Rules.{rules}
 use Rattle.double.proofs.Laws.Apart.{Means, apart_means}
 use Rattle.sum.proofs.Laws.Grain.{twos_zero, twos_other}
 use Rattle.sum.proofs.measure.twos.Goals as goal

@@ -1,7 +1,7 @@
 -- `sum::measure::weight` meets its contract. The loop's invariant: w is what the entries from index i on add up to, and at most `share_most`
 -- for each of them, so that it fits. The measure is i. Assumes nothing.
-use mathlib.Core.Path.{◌≡◌, ap, ap₂, ◌∙◌}
-use Prim.Native.Nat.{ℕ, ◌+◌, ◌-◌, ◌*◌, ◌≤◌, ◌<◌}
+use mathlib.Core.Path.{ap, ap₂, ◌∙◌}
+use Prim.Native.Nat.{ℕ, ◌+◌, ◌-◌, ◌≤◌, ◌<◌}
 use native.Mathlib.Nat.{le_trans, le_of_eq}
 use lib.Arith.{le-zero}
 use native.Mathlib.Omega.{arith}

@@ -1,17 +1,11 @@
 -- `sum::measure::weight` meets its contract. The loop's invariant: w is what the entries from index i on add up to, and at most `share_most`
 -- for each of them, so that it fits. The measure is i. Assumes nothing.
-use mathlib.Core.Path.{◌≡◌, ap, ap₂, ◌∙◌}
-use Prim.Native.Nat.{ℕ, ◌+◌, ◌-◌, ◌*◌, ◌≤◌, ◌<◌}
-use native.Mathlib.Nat.{le_trans, le_of_eq}
-use lib.Arith.{le-zero}
-use native.Mathlib.Omega.{arith}
-use lib.ListN.{length, drop, get_or}
-use lib.Ieee.{nan}
-use borrow.Author.Rules.{rules}
+use mathlib.Core.Path.{◌≡◌}
+use Prim.Native.Nat.{◌-◌, ◌*◌, ◌≤◌}
+use lib.ListN.{length, drop}
 use Rattle.sum.specs.Limit.{divisor}
 use Rattle.sum.specs.Ceiling.{weight_of}
-use Rattle.sum.proofs.Laws.Grain.{finite_at}
-use Rattle.sum.proofs.Laws.Ceiling.{share_most, share_most_lem, weight_end, weight_turn}
+use Rattle.sum.proofs.Laws.Ceiling.{share_most}
 use Rattle.sum.proofs.measure.weight.Given as goal
 
 abbrev pub invariant-loop-i : goal.invariant-loop-i

@@ -1,25 +1,22 @@
 -- `sum::plain_sum::plain` meets its contract.
-use Prim.Native.Nat.{◌≤◌, ◌-◌}
-use mathlib.Core.Path.{◌≡◌, refl, sym, ap, ◌∙◌, subst}
+use Prim.Native.Nat.{◌≤◌}
+use mathlib.Core.Path.{refl, sym, ap, ◌∙◌, subst}
 use lib.Dec.{T}
 use lib.Ieee.{nan, binary64}
-use lib.ListN.{length, get_or, drop}
+use lib.ListN.{get_or}
 use native.Mathlib.Omega.{arith}
-use borrow.Author.Rules.{rules}
-use borrow.Author.Tests.{not-true, not-false}
 use Rattle.whole.specs.Sign.{sgn}
 use Rattle.refusal.specs.Outcome.{answers}
 use Rattle.refusal.proofs.Laws.Search.{passing_here, passing_later, passing_end}
 use Rattle.double.proofs.Laws.Units.{Real}
-use Rattle.total.specs.Words.{count, value_of}
+use Rattle.total.specs.Words.{value_of}
 use Rattle.total.proofs.Laws.Add.{add_finite, add_changes}
-use Rattle.sum.specs.Refused.{checked_from}
 use Rattle.sum.specs.Limit.{limit}
 use Rattle.sum.specs.Total.{total_of, sign_number}
 use Rattle.sum.specs.declared.answer.Sign.{Sign}
 use Rattle.sum.specs.Plain.{plain_said, plain_of}
 use Rattle.sum.proofs.Laws.Refused.{checked_long, checked_short}
-use Rattle.sum.proofs.Laws.Plain.{Held, held_start, held_next, held_sign}
+use Rattle.sum.proofs.Laws.Plain.{held_start, held_next, held_sign}
 use Rattle.sum.proofs.plain_sum.plain.Goals as goal
 
 pub returns-then-list-gt-LIMIT : goal.returns-then-list-gt-LIMIT

@@ -1,6 +1,5 @@
 -- `sum::run` meets its contract: a fault is the refusal, and otherwise the inner run answers. Assumes nothing.
 use mathlib.Core.Path.{sym, ap, ◌∙◌}
-use borrow.Author.Rules.{rules}
 use Rattle.sum.specs.Parts.{found}
 use Rattle.sum.proofs.Laws.Refused.{fault_none}
 use Rattle.sum.proofs.Laws.Running.{run_says_refused, run_says_done}

@@ -1,9 +1,6 @@
 -- `sum::running::run_on` meets its contract. The loop's invariant is `Going`, its measure what is left of the budget. Assumes nothing.
 use Prim.Native.Nat.{◌-◌}
-use mathlib.Core.Path.{sym, ◌∙◌}
-use native.Mathlib.Omega.{arith}
-use borrow.Author.Rules.{rules}
-use Rattle.sum.proofs.Laws.Running.{Going, going_start, going_stepping, going_decided, going_out, going_step, verdict_is}
+use Rattle.sum.proofs.Laws.Running.{Going}
 use Rattle.sum.proofs.running.run_on.Given as goal
 
 abbrev pub invariant-loop-list : goal.invariant-loop-list

@@ -1,7 +1,6 @@
 -- `sum::stepping::step` meets its contract: whichever extreme is larger, the two writes are the rule's step. Assumes nothing.
 use native.Mathlib.Omega.{arith}
 use lib.ListN.{length-set}
-use borrow.Author.Rules.{rules}
 use Rattle.sum.proofs.Laws.Stepping.{at_inside, bt_inside, opposed_down, opposed_up, writes_down, writes_up, writes_level}
 use Rattle.sum.proofs.stepping.step.Goals as goal
 

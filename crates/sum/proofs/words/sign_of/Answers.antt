@@ -2,12 +2,8 @@
 use Rattle.total.proofs.Laws.Words.{Below}
 use Rattle.sum.proofs.Laws.Words.{value_next, held_below, held_minus, held_plus, held_zero}
 use mathlib.Core.Path.{◌∙◌}
-use Prim.Native.Nat.{◌-◌, ◌*◌, ◌^◌, ◌≤◌}
-use mathlib.Core.Path.{◌≡◌}
-use lib.ListN.{drop}
 use native.Mathlib.Omega.{arith}
-use borrow.Author.Rules.{rules}
-use Rattle.total.specs.Words.{base, count, value_of}
+use Rattle.total.specs.Words.{base}
 use Rattle.sum.proofs.words.sign_of.Goals as goal
 
 pub returns-then-words-ge-TOP : goal.returns-then-words-ge-TOP
