@@ -27,7 +27,7 @@ use Rattle.geometry.specs.declared.answer.Zone.TheVariants.{At, Refused as ZoneR
 use Rattle.geometry.proofs.Laws.Answered.{zone_answered}
 use Rattle.crease.specs.Claim.{Holds}
 use Rattle.crease.specs.Plan.{counted_in, zones_of, places_in, PlanSays}
-use Rattle.crease.specs.Reasons.{zone_at, Counted, Answered, word_of}
+use Rattle.crease.specs.Reasons.{zone_at, Answered, word_of}
 use Rattle.crease.specs.declared.answer.Claim.{Claim}
 use Rattle.crease.specs.declared.answer.Claim.TheVariants.{Border, Alone}
 use Rattle.crease.specs.declared.answer.Plan.{Plan}

@@ -2,7 +2,6 @@
 use mathlib.Core.Path.{sym, ap}
 use Rattle.crease.specs.Parts.{with_border}
 use Rattle.crease.specs.declared.answer.Claim.{Claim}
-use borrow.Author.Rules.{rules}
 use Rattle.crease.proofs.claims.with_border.Goals as goal
 
 pub returns-in-Border : goal.returns-in-Border

@@ -2,7 +2,6 @@
 use mathlib.Core.Path.{sym, ap}
 use Rattle.crease.specs.Parts.{with_inside}
 use Rattle.crease.specs.declared.answer.Claim.{Claim}
-use borrow.Author.Rules.{rules}
 use Rattle.crease.proofs.claims.with_inside.Goals as goal
 
 pub returns-in-Border : goal.returns-in-Border

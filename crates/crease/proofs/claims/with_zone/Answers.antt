@@ -3,7 +3,6 @@ use mathlib.Core.Path.{sym, ap, ◌∙◌}
 use Rattle.geometry.specs.Zone.{place_said}
 use Rattle.geometry.specs.declared.answer.Place.{Place}
 use Rattle.crease.specs.Parts.{with_zone}
-use borrow.Author.Rules.{rules}
 use Rattle.crease.proofs.claims.with_zone.Goals as goal
 
 pub returns-in-Outside : goal.returns-in-Outside

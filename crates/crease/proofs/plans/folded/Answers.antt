@@ -1,12 +1,11 @@
 -- `plans::folded` meets its contract. The loop's invariant: the zones that are left, with the claim of those before, come to what all come to.
 -- Assumes nothing.
-use Prim.Native.Nat.{◌-◌, ◌*◌}
+use Prim.Native.Nat.{◌*◌}
 use mathlib.Core.Path.{sym, ◌∙◌}
 use native.Mathlib.Omega.{arith}
-use lib.ListN.{length, get_or}
+use lib.ListN.{get_or}
 use lib.Seq.{length-take-le}
-use borrow.Author.Rules.{rules}
-use Rattle.crease.proofs.Laws.Zones.{Turn, turn_start, turn_fits, turn_refused, turn_next, turn_done, rest_whole}
+use Rattle.crease.proofs.Laws.Zones.{turn_start, turn_fits, turn_refused, turn_next, turn_done, rest_whole}
 use Rattle.crease.proofs.plans.folded.Goals as goal
 
 pub loop-k-init : goal.loop-k-init

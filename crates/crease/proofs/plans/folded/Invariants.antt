@@ -1,12 +1,8 @@
 -- `plans::folded` meets its contract. The loop's invariant: the zones that are left, with the claim of those before, come to what all come to.
 -- Assumes nothing.
-use Prim.Native.Nat.{◌-◌, ◌*◌}
-use mathlib.Core.Path.{sym, ◌∙◌}
-use native.Mathlib.Omega.{arith}
-use lib.ListN.{length, get_or}
-use lib.Seq.{length-take-le}
-use borrow.Author.Rules.{rules}
-use Rattle.crease.proofs.Laws.Zones.{Turn, turn_start, turn_fits, turn_refused, turn_next, turn_done, rest_whole}
+use Prim.Native.Nat.{◌-◌}
+use lib.ListN.{length}
+use Rattle.crease.proofs.Laws.Zones.{Turn}
 use Rattle.crease.proofs.plans.folded.Given as goal
 
 abbrev pub invariant-loop-k : goal.invariant-loop-k

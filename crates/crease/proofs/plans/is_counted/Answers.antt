@@ -1,10 +1,6 @@
 -- `plans::is_counted` meets its contract. The loop's invariant: what is left fits the counts that are left if and only if all fits. Assumes nothing.
-use Prim.Native.Nat.{◌-◌, ◌*◌}
-use mathlib.Core.Path.{◌≡◌, sym, ap, ◌∙◌}
+use mathlib.Core.Path.{sym, ap, ◌∙◌}
 use lib.Dec.{eqb}
-use lib.ListN.{drop, length}
-use borrow.Author.Rules.{rules}
-use Rattle.crease.specs.Plan.{counted_in}
 use Rattle.crease.proofs.Laws.Zones.{counted_done, counted_odd, counted_even, counted_short, counted_left}
 use Rattle.crease.proofs.plans.is_counted.Goals as goal
 

@@ -1,8 +1,7 @@
 -- `plans::plan` meets its contract: each refusal in order, and then the walk over all zones. Assumes nothing.
 use mathlib.Core.Path.{sym, ◌∙◌}
-use borrow.Author.Tests.{eqb-true, not-true, not-false}
+use borrow.Author.Tests.{eqb-true}
 use Rattle.crease.proofs.Laws.Plan.{judged_many, judged_uncounted, judged_x, judged_y, judged_zones, refused_says, folded_says}
-use borrow.Author.Rules.{rules}
 use Rattle.crease.proofs.plans.plan.Goals as goal
 
 pub returns-then-counts-gt-MOST : goal.returns-then-counts-gt-MOST

@@ -3,7 +3,6 @@ use mathlib.Core.Path.{sym, ap, ◌∙◌}
 use Rattle.geometry.specs.Zone.{zone_said}
 use Rattle.crease.specs.Parts.{with_next}
 use Rattle.crease.specs.declared.answer.Plan.TheVariants.{Of}
-use borrow.Author.Rules.{rules}
 use Rattle.crease.proofs.plans.with_next.Goals as goal
 
 pub returns-in-At : goal.returns-in-At

@@ -1,7 +1,6 @@
 -- `crossing::crosses` meets its contract: by the heights, and then by the sign. Assumes nothing.
 use mathlib.Core.Path.{sym, subst, ◌∙◌}
 use lib.Dec.{T}
-use borrow.Author.Rules.{rules}
 use Rattle.point.proofs.Laws.Worths.{RealPoint, accepted_point}
 use Rattle.reason.proofs.Laws.Crossing.{crossing_under, crossing_over, crossing_rising, crossing_falling}
 use Rattle.reason.proofs.crossing.crosses.Goals as goal

@@ -2,7 +2,6 @@
 use mathlib.Core.Path.{◌≡◌, sym, ap, subst, ◌∙◌}
 use mathlib.Core.Bool.{Bool, true, false, ◌||◌}
 use lib.Dec.{T}
-use borrow.Author.Rules.{rules}
 use Rattle.point.proofs.Laws.Worths.{RealPoint, accepted_point}
 use Rattle.reason.specs.Parts.{same_by}
 use Rattle.reason.proofs.Laws.Crossing.{corner_worth}

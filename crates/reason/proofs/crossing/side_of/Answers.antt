@@ -3,7 +3,6 @@ use mathlib.Core.Path.{subst}
 use Rattle.geometry.specs.Side.{SignSays}
 use Rattle.geometry.proofs.Laws.SignCalls.{sign_told}
 use Rattle.reason.proofs.Laws.Crossing.{never_refused}
-use borrow.Author.Rules.{rules}
 use Rattle.reason.proofs.crossing.side_of.Goals as goal
 
 pub returns-in_default : goal.returns-in_default

@@ -1,5 +1,4 @@
 -- `listing::next_of` meets its contract: by its one test. Assumes nothing.
-use borrow.Author.Rules.{rules}
 use borrow.Author.Tests.{lt-ltb, le-ltb}
 use Rattle.reason.proofs.listing.next_of.Goals as goal
 

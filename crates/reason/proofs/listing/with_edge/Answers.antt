@@ -4,7 +4,6 @@ use Prim.Native.Nat.{ℕ, ◌+◌}
 use native.Mathlib.Omega.{arith}
 use lib.ListN.{set}
 use Rattle.reason.specs.Parts.{with_edge, with_entry}
-use borrow.Author.Rules.{rules}
 use Rattle.reason.proofs.listing.with_edge.Goals as goal
 
 pub returns-in-Up : goal.returns-in-Up

@@ -1,9 +1,6 @@
 -- `reasons::copy` meets its contract. The loop's invariant: i entries stand, with the lent bytes that are left. Assumes nothing.
-use Prim.Native.Nat.{◌-◌}
 use native.Mathlib.Omega.{arith}
-use lib.ListN.{length}
-use Rattle.reason.proofs.Laws.Listing.{Copying, copying_start, copying_turn, copying_done}
-use borrow.Author.Rules.{rules}
+use Rattle.reason.proofs.Laws.Listing.{copying_start, copying_turn, copying_done}
 use Rattle.reason.proofs.reasons.copy.Goals as goal
 
 pub loop-i-init : goal.loop-i-init

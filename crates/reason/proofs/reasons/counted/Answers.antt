@@ -6,7 +6,6 @@ use Prim.Native.Nat.{◌+◌, ◌≤◌}
 use lib.ListN.{length, take}
 use lib.Seq.{length-take-le}
 use Rattle.reason.proofs.Laws.Why.{counted_few, counted_short, counted_says}
-use borrow.Author.Rules.{rules}
 use Rattle.reason.proofs.reasons.counted.Goals as goal
 
 pub overflow_add-n : goal.overflow_add-n

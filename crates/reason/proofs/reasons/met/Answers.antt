@@ -12,7 +12,6 @@ use Rattle.geometry.specs.Zone.{corner_at, next_of}
 use Rattle.geometry.proofs.Laws.Zone.{next_inside}
 use Rattle.reason.specs.Parts.{edge_from}
 use Rattle.reason.specs.declared.answer.Met.{Met}
-use borrow.Author.Rules.{rules}
 use Rattle.reason.proofs.reasons.met.Goals as goal
 
 pub corner_at-requires-2 : goal.corner_at-requires-2

@@ -6,7 +6,6 @@ use Rattle.reason.specs.Why.{WhySays}
 use Rattle.reason.specs.declared.answer.Met.{Met}
 use Rattle.reason.specs.declared.answer.Why.TheVariants.{Border}
 use Rattle.reason.proofs.Laws.Why.{edge_number, met_says}
-use borrow.Author.Rules.{rules}
 use Rattle.reason.proofs.reasons.placed.Goals as goal
 
 pub met-requires : goal.met-requires

@@ -2,7 +2,6 @@
 use mathlib.Core.Path.{sym, ap, ◌∙◌}
 use Rattle.geometry.specs.Zone.{zone_said}
 use Rattle.reason.proofs.Laws.Why.{answered_zoned, zone_refused_says}
-use borrow.Author.Rules.{rules}
 use Rattle.reason.proofs.reasons.why.Goals as goal
 
 pub placed-requires : goal.placed-requires

@@ -1,6 +1,5 @@
 -- `report::places::code` meets its contract: case by case. Assumes nothing.
 use Rattle.geometry.specs.Zone.{place_said}
-use borrow.Author.Rules.{rules}
 use Rattle.report.proofs.places.code.Goals as goal
 
 pub returns-in-Outside : goal.returns-in-Outside

@@ -1,7 +1,6 @@
 -- `report::places::code_at` meets its contract: the zone answers a place for every accepted point. Assumes nothing.
 use mathlib.Core.Path.{◌∙◌}
 use Rattle.report.proofs.Laws.Codes.{code_place, code_never}
-use borrow.Author.Rules.{rules}
 use Rattle.report.proofs.places.code_at.Goals as goal
 
 pub returns-in-At : goal.returns-in-At

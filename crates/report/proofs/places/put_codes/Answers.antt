@@ -1,9 +1,7 @@
 -- `report::places::put_codes` meets its contract. The loop's invariant: the codes of i releases stand, with the lent bytes that are left.
 -- Assumes nothing.
-use Prim.Native.Nat.{◌-◌}
 use native.Mathlib.Omega.{arith}
-use Rattle.report.proofs.Laws.Codes.{Coding, coding_start, coding_turn, coding_done, accepted_at}
-use borrow.Author.Rules.{rules}
+use Rattle.report.proofs.Laws.Codes.{coding_start, coding_turn, coding_done, accepted_at}
 use Rattle.report.proofs.places.put_codes.Goals as goal
 
 pub loop-i-init : goal.loop-i-init

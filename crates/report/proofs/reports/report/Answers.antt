@@ -6,7 +6,6 @@ use Rattle.report.specs.Parts.{JudgedHeld}
 use Rattle.report.specs.declared.answer.Judged.TheVariants.{Corners}
 use Rattle.report.proofs.Laws.Zone.{judged_as, judged_zoned, judged_most}
 use Rattle.report.proofs.Laws.Report.{says_refused, says_told}
-use borrow.Author.Rules.{rules}
 use Rattle.report.proofs.reports.report.Goals as goal
 
 pub overflow_mul-held : goal.overflow_mul-held
