@@ -22,7 +22,8 @@ SIGNATURE = re.compile(r"^\s*(?:(?:abbrev|unfoldable|pub|private) )*([^\s(){}.;,
 QUIET = re.compile(r'"(?:[^"\\\n]|\\.)*"|(?:(?<=[\s(){}.;,])|^)--[^\n]*', re.MULTILINE)
 USE = re.compile(r"^(?:pub )?use ([^\s{]+?)\.?\{([^}]*)\}", re.MULTILINE)
 CLAUSE_USE = re.compile(r"ghost\s+use\s+Rattle\.(\w+)\.[^;{]*\{([^}]*)\};")
-TURNS = re.compile(r"^[a-z][^\s]*[a-z0-9'][A-Z]|^[a-zA-Z].*\w-\w")
+TURNS = re.compile(r"^[a-z][^\s]*[a-z0-9'][A-Z]|^[a-zA-Z](?:.*\w)?-\w|^[+*]ℤ-left-")
+LOCAL = re.compile(r"^(?:(?:abbrev|pub) )*([^\s(){}.;,]+) :(?! goal\.)|\blet ([^\s(){}.;,]+) (?=[:=] )", re.MULTILINE)
 SPAN = re.compile(r"`[^`\n]+`")
 OWN = {path.name for path in CRATES.iterdir()}
 
@@ -55,6 +56,11 @@ def is_own(path):
     return parts[0] == "Rattle" and len(parts) > 1 and parts[1] in OWN and parts[-1] not in ("Tie", "Lts", "Reads", "Statement")
 
 
+def files(pattern):
+    """The files of the crates, without those that a build made."""
+    return sorted(path for path in CRATES.rglob(pattern) if path.relative_to(CRATES).parts[1] != "out")
+
+
 def lent(text):
     """The names that a file takes from the toolchain."""
     names = set()
@@ -80,7 +86,7 @@ def words(text):
 def table():
     """The names that turn everywhere, and those that turn in a law file alone, by file."""
     declared, bound = set(), collections.defaultdict(set)
-    for path in sorted(CRATES.rglob("*.antt")):
+    for path in files("*.antt"):
         if is_proof(path):
             continue
         text = path.read_text()
@@ -92,6 +98,12 @@ def table():
             if TURNS.search(word) and not dotted and word not in from_kit:
                 bound[path].add(word)
     return declared, bound
+
+
+def locals_of(text):
+    """What a proof of a function names for itself, and not after a goal."""
+    found = {m[1] or m[2] for m in LOCAL.finditer(quieted(text))}
+    return {name for name in found if TURNS.search(name) and not re.search(rf"^pub {re.escape(name)} : goal", text, re.MULTILINE)}
 
 
 def rewritten(text, turns, dotted_turns):
@@ -154,11 +166,11 @@ def main():
     names, bound = table()
     meet(names, bound)
     changes, faults = {}, []
-    for path in sorted(CRATES.rglob("*.antt")):
+    for path in files("*.antt"):
         text = path.read_text()
         if is_proof(path):
             from_kit = lent(text)
-            turns = {n for n in names if n not in from_kit}
+            turns = {n for n in names | locals_of(text) if n not in from_kit}
         else:
             turns = bound[path]
         here = {word for _, word, dotted in words(text) if not dotted}
@@ -169,14 +181,14 @@ def main():
             if len({turned(old) for old in olds}) < len(olds):
                 faults.append(f"{path.relative_to(ROOT)}: {', '.join(sorted(olds))} would all be {new}")
         changes[path] = in_comments(rewritten(text, turns, names), names)
-    for path in sorted(CRATES.rglob("*.rt")):
+    for path in files("*.rt"):
         changes[path] = clauses(path.read_text(), names)
     for name in sorted(MET):
         print(f"look: {name} is {turned(name)}")
     if faults:
         print("\n".join("together: " + fault for fault in faults))
         return 1
-    for path in sorted(CRATES.rglob("must-fail/*.edit")):
+    for path in files("*.edit"):
         changes[path] = edit(path, names)
     for path in [*sorted((ROOT / "docs").rglob("*.md")), ROOT / "README.md"]:
         changes[path] = SPAN.sub(lambda s: spans(s[0], names), path.read_text())
@@ -191,7 +203,7 @@ def meet(names, bound):
     """Notes the lemmas, whose names have dashes, that would get the name of something else."""
     for olds in together(names).values():
         MET.update(name for name in olds if "-" in name)
-    for path in sorted(CRATES.rglob("*.antt")):
+    for path in files("*.antt"):
         here = {word for _, word, dotted in words(path.read_text()) if not dotted}
         MET.update(name for name in names & here if "-" in name and plainly(name) in here)
         for olds in together(here & (names | bound[path])).values():

@@ -22,17 +22,17 @@ found (At r) = refuses r.number r.place
 
 -- finite, of unlike sign, neither 0, and a no smaller in magnitude than b
 pub record Opposed (a b : Float) : Type 0 where
-  pub a-finite : T (finite a)
-  pub b-finite : T (finite b)
+  pub a_finite : T (finite a)
+  pub b_finite : T (finite b)
   pub unlike : sign_bit b ≡ not (sign_bit a)
   pub nonzero : 0 < mag binary64 b
   pub larger : mag binary64 b ≤ mag binary64 a
 
 -- Sum 9: x is the rounded sum, nothing is lost in units of 2^-1074, and y is the double of what x lacks
 pub record ExactSum (a b x y : Float) : Type 0 where
-  pub x-is : x ≡ rounded a b
+  pub x_is : x ≡ rounded a b
   pub exact : worth x +ℤ worth y ≡ worth a +ℤ worth b
-  pub y-is : y ≡ roundoff a b
+  pub y_is : y ≡ roundoff a b
 
 -- what the inner run promises, on a list that is not refused: verdict, steps and every entry
 pub record RanSays (xs : List Float) (budget : ℕ) (r : Ran) (after : List Float) : Type 0 where

@@ -36,15 +36,15 @@ product_most = 3171
 
 -- 2 ^ i divides x, 2 ^ j divides y, and they make up a unit; neither is too large, nor is the product. Any power of two divides a zero.
 pub record Factors (x y : Float) : Type 0 where
-  pub x-real : Real binary64 x
-  pub y-real : Real binary64 y
+  pub x_real : Real binary64 x
+  pub y_real : Real binary64 y
   pub i : ℕ
   pub j : ℕ
-  pub x-grain : 2 ^ i ∣ mag binary64 x
-  pub y-grain : 2 ^ j ∣ mag binary64 y
+  pub x_grain : 2 ^ i ∣ mag binary64 x
+  pub y_grain : 2 ^ j ∣ mag binary64 y
   pub whole : 1074 ≤ i + j
-  pub x-small : mag binary64 x ≤ 2 ^ factor_most
-  pub y-small : mag binary64 y ≤ 2 ^ factor_most
+  pub x_small : mag binary64 x ≤ 2 ^ factor_most
+  pub y_small : mag binary64 y ≤ 2 ^ factor_most
   pub small : mag binary64 x * mag binary64 y < 2 ^ product_most
 
 -- ---- the product and the rounded one, in units
@@ -74,7 +74,7 @@ significands_below x y =
 module _ {x y : Float} (F : Factors x y) where
   product_units : mag binary64 x * mag binary64 y ≡ product_of x y * 2 ^ 1074
   product_units =
-      product_whole (mag binary64 x) (mag binary64 y) F.i F.j (F.i + F.j - 1074) 1074 F.x-grain F.y-grain
+      product_whole (mag binary64 x) (mag binary64 y) F.i F.j (F.i + F.j - 1074) 1074 F.x_grain F.y_grain
       (omega (arith, F.whole))
 
   pub significands_units : significands_of x y * 2 ^ last_of x y ≡ product_of x y * 2 ^ 1074
@@ -83,7 +83,7 @@ module _ {x y : Float} (F : Factors x y) where
       let Y : ℕ = mag binary64 y in
       ap (λ (n : ℕ). significands_of x y * n) (pow-add 2 (exponent_of X) (exponent_of Y))
       ∙ mul-mul-mul_comm (significand_of X) (significand_of Y) (2 ^ exponent_of X) (2 ^ exponent_of Y)
-      ∙ ap₂ (λ (m n : ℕ). m * n) (significand_exact X (mag_rep binary64 x F.x-real)) (significand_exact Y (mag_rep binary64 y F.y-real))
+      ∙ ap₂ (λ (m n : ℕ). m * n) (significand_exact X (mag_rep binary64 x F.x_real)) (significand_exact Y (mag_rep binary64 y F.y_real))
       ∙ product_units
 
   product_below : product_of x y < 2 ^ 2097
@@ -98,7 +98,7 @@ module _ {x y : Float} (F : Factors x y) where
   pub rounded_known : Known binary64 (mul binary64 x y) (sign_of x y) (rn 53 (product_of x y))
   rounded_known =
       subst (λ (z : Float). Known binary64 z (sign_of x y) (rn 53 (product_of x y)))
-      (sym (mul_whole binary64 x y (product_of x y) F.x-real F.y-real product_units))
+      (sym (mul_whole binary64 x y (product_of x y) F.x_real F.y_real product_units))
       (value_known binary64 (of_units binary64 (sign_of x y) (product_of x y)) (sign_of x y) (rn 53 (product_of x y))
       (of_units_fits binary64 (sign_of x y) (product_of x y)) (of_units_value binary64 (sign_of x y) (product_of x y) rounded_below))
 

@@ -164,8 +164,8 @@ step_y = refl
 opposed : Opposed binary64 one quarter_more
 unfolding fits
 opposed = record {
-  a-real = record { fin = tt; fit = tt };
-  b-real = record { fin = tt; fit = tt };
+  a_real = record { fin = tt; fit = tt };
+  b_real = record { fin = tt; fit = tt };
   unlike = refl;
   nonzero = ltb→lt _ _ tt;
   larger = leb→le _ _ tt;

@@ -19,15 +19,15 @@ use Rattle.double.proofs.Laws.Sized.{Sized, Reach, sized_of, sided_own, units_gr
 pub factors_of : (g1 b1 g2 b2 : ℕ) {x y : Float} → Sized g1 b1 x → Sized g2 b2 y
     → 1074 ≤ g1 + g2 → b1 ≤ factor_most → b2 ≤ factor_most → b1 + b2 < product_most → Factors x y
 factors_of g1 b1 g2 b2 rx ry w h k l = record {
-  x-real = rx.real;
-  y-real = ry.real;
+  x_real = rx.real;
+  y_real = ry.real;
   i = g1;
   j = g2;
-  x-grain = rx.grain;
-  y-grain = ry.grain;
+  x_grain = rx.grain;
+  y_grain = ry.grain;
   whole = w;
-  x-small = le_trans rx.most (pow_mono h);
-  y-small = le_trans ry.most (pow_mono k);
+  x_small = le_trans rx.most (pow_mono h);
+  y_small = le_trans ry.most (pow_mono k);
   small = lt_of_le_of_lt (mul-le-mul rx.most ry.most) (lt_of_le_of_lt (le_of_eq (sym (pow-add 2 b1 b2))) (pow-lt l));
 }
 

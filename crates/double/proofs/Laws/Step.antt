@@ -23,25 +23,25 @@ use Rattle.double.proofs.Laws.Worth.{worth_sums, double_of_worth_own}
 
 -- unlike signs, neither is 0, and a is no smaller
 pub record Opposed (f : Format) (a b : Float) : Type 0 where
-  pub a-real : Real f a
-  pub b-real : Real f b
+  pub a_real : Real f a
+  pub b_real : Real f b
   pub unlike : sign_bit b ≡ not (sign_bit a)
   pub nonzero : 0 < mag f b
   pub larger : mag f b ≤ mag f a
 
 pub record Stepped (f : Format) (a b x y : Float) : Type 0 where
-  pub x-real : Real f x
-  pub y-real : Real f y
+  pub x_real : Real f x
+  pub y_real : Real f y
   -- x + y is a + b
   pub exact : plus f x + plus f y + (minus f a + minus f b) ≡ plus f a + plus f b + (minus f x + minus f y)
   -- x is the rounded difference of the magnitudes, with the sign of a, or +0
-  pub x-mag : mag f x ≡ rn (prec f) (mag f a - mag f b)
-  pub x-sign : 0 < mag f x → sign_bit x ≡ sign_bit a
-  pub x-zero : mag f x ≡ 0 → x ≡ plus_zero
-  pub x-le : mag f x ≤ mag f a
+  pub x_mag : mag f x ≡ rn (prec f) (mag f a - mag f b)
+  pub x_sign : 0 < mag f x → sign_bit x ≡ sign_bit a
+  pub x_zero : mag f x ≡ 0 → x ≡ plus_zero
+  pub x_le : mag f x ≤ mag f a
   -- y is small, and a y of 0 is +0
-  pub y-small : mag f y * 2 ^ prec f ≤ mag f a - mag f b
-  pub y-zero : mag f y ≡ 0 → y ≡ plus_zero
+  pub y_small : mag f y * 2 ^ prec f ≤ mag f a - mag f b
+  pub y_zero : mag f y ≡ 0 → y ≡ plus_zero
   -- a power of two that divides a and b divides x and y
   pub grain : (j : ℕ) → 2 ^ j ∣ mag f a → 2 ^ j ∣ mag f b → (2 ^ j ∣ mag f x) × (2 ^ j ∣ mag f y)
 
@@ -94,21 +94,21 @@ even true f a b x y e = omega arith
 pub step : (f : Format) (a b : Float) → Opposed f a b → Stepped f a b (add f a b) (sub f b (sub f (add f a b) a))
 step f a b o =
     record {
-      x-real = r.xs.real;
-      y-real = r.ys.real;
+      x_real = r.xs.real;
+      y_real = r.ys.real;
       exact = even s f a b x y r.sum;
-      x-mag = x-is;
-      x-sign = λ h. elim (part_only s f x r.xs.other).1 [ inl e ↦ e | inr e ↦ absurd (none r.xs.same x-is e h) ];
-      x-zero = λ e.
-          add_cancel f a b o.a-real o.b-real o.unlike (level A B (rn_zero_only p n (prec_pos f) (sym x-is ∙ e)) o.larger);
-      x-le = subst (λ (k : ℕ). k ≤ A) (sym x-is) r.le;
-      y-small = subst (λ (k : ℕ). k * 2 ^ p ≤ n) (sym y-is) (rn_error p n (prec_pos f));
-      y-zero = λ e. ap (sub f b) (z-is (sym y-is ∙ e)) ∙ sub_self f b o.b-real;
+      x_mag = x_is;
+      x_sign = λ h. elim (part_only s f x r.xs.other).1 [ inl e ↦ e | inr e ↦ absurd (none r.xs.same x_is e h) ];
+      x_zero = λ e.
+          add_cancel f a b o.a_real o.b_real o.unlike (level A B (rn_zero_only p n (prec_pos f) (sym x_is ∙ e)) o.larger);
+      x_le = subst (λ (k : ℕ). k ≤ A) (sym x_is) r.le;
+      y_small = subst (λ (k : ℕ). k * 2 ^ p ≤ n) (sym y_is) (rn_error p n (prec_pos f));
+      y_zero = λ e. ap (sub f b) (z_is (sym y_is ∙ e)) ∙ sub_self f b o.b_real;
       grain = λ j da db.
           let dn : 2 ^ j ∣ n = dvd-sub (2 ^ j) da db in
           let dx : 2 ^ j ∣ rn p n = rn_dvd p j dn in (
-            subst (λ (k : ℕ). 2 ^ j ∣ k) (sym x-is) dx,
-            subst (λ (k : ℕ). 2 ^ j ∣ k) (sym y-is) (dvd-add (2 ^ j) (dvd-sub (2 ^ j) dx dn) (dvd-sub (2 ^ j) dn dx)),
+            subst (λ (k : ℕ). 2 ^ j ∣ k) (sym x_is) dx,
+            subst (λ (k : ℕ). 2 ^ j ∣ k) (sym y_is) (dvd-add (2 ^ j) (dvd-sub (2 ^ j) dx dn) (dvd-sub (2 ^ j) dn dx)),
           );
     }
   where
@@ -151,45 +151,45 @@ step f a b o =
     turned : (A B x : ℕ) → B ≤ A → gap x (A - B) ≡ 0 → A - x ≡ B
     turned A B x h e = omega arith
 
-    a-split : Split s f a A 0
-    a-split = split_own s f a o.a-real refl
+    a_split : Split s f a A 0
+    a_split = split_own s f a o.a_real refl
 
-    b-split : Split s f b 0 B
-    b-split =
+    b_split : Split s f b 0 B
+    b_split =
         let e : part (not s) f b ≡ B = (part_own (not s) f b o.unlike).0 in
-        record { real = o.b-real; same = rest (part s f b) (part (not s) f b) B (part_both s f b) e; other = e }
+        record { real = o.b_real; same = rest (part s f b) (part (not s) f b) B (part_both s f b) e; other = e }
 
     r : Sided s f a b A B x z y
-    r = sided s f a b A B a-split b-split o.larger
+    r = sided s f a b A B a_split b_split o.larger
 
-    x-is : mag f x ≡ rn p n
-    x-is =
+    x_is : mag f x ≡ rn p n
+    x_is =
         whole (part s f x) (rn p n) (part (not s) f x) 0 (mag f x) r.xs.same r.xs.other (part_both s f x)
         ∙ add-zero (rn p n)
 
-    y-is : mag f y ≡ gap (rn p n) n
-    y-is =
+    y_is : mag f y ≡ gap (rn p n) n
+    y_is =
         whole (part (not s) f y) (rn p n - n) (part s f y) (n - rn p n) (mag f y) r.ys.other r.ys.same
         (add_comm (part (not s) f y) (part s f y) ∙ part_both s f y)
 
-    z-is : gap (rn p n) n ≡ 0 → z ≡ b
-    z-is e =
+    z_is : gap (rn p n) n ≡ 0 → z ≡ b
+    z_is e =
         split_unique (not s) f z b B o.nonzero
         (subst (λ (k : ℕ). Split (not s) f z k 0) (turned A B (rn p n) o.larger e) (split_turn s f z 0 (A - rn p n) r.zs))
-        (split_turn s f b 0 B b-split)
+        (split_turn s f b 0 B b_split)
 
 -- ---- y against b, where a is at most 2 ^ k times b
 pub step_shrinks : {f : Format} {a b x y : Float} → Stepped f a b x y
     → (q k : ℕ) → prec f ≡ q + k → 0 < mag f b → mag f a ≤ mag f b * 2 ^ k → mag f y * 2 ^ q < mag f b
-step_shrinks {f} {a} {b} {x} {y} r q k e h g = roundoff_shrinks (prec f) q k (mag f a) (mag f b) (mag f y) e h r.y-small g
+step_shrinks {f} {a} {b} {x} {y} r q k e h g = roundoff_shrinks (prec f) q k (mag f a) (mag f b) (mag f y) e h r.y_small g
 
 -- equal magnitudes leave nothing
 pub step_equal : {f : Format} {a b x y : Float} → Stepped f a b x y → mag f a ≡ mag f b → (x ≡ plus_zero) × (y ≡ plus_zero)
 step_equal {f} {a} {b} {x} {y} r e =
     let p = prec f in
     let z : mag f a - mag f b ≡ 0 = level (mag f a) (mag f b) e in (
-      r.x-zero (r.x-mag ∙ ap (rn p) z ∙ rn_zero p),
-      r.y-zero (none (mag f y) (2 ^ p) (pow_pos p) (subst (λ (k : ℕ). mag f y * 2 ^ p ≤ k) z r.y-small)),
+      r.x_zero (r.x_mag ∙ ap (rn p) z ∙ rn_zero p),
+      r.y_zero (none (mag f y) (2 ^ p) (pow_pos p) (subst (λ (k : ℕ). mag f y * 2 ^ p ≤ k) z r.y_small)),
     )
   where
     level : (m n : ℕ) → m ≡ n → m - n ≡ 0
@@ -206,5 +206,5 @@ step_worth {a} {b} {x} {y} r = worth_sums a b x y r.exact
 -- y is what x lacks, as a double
 pub step_roundoff : {a b x y : Float} → Stepped binary64 a b x y → y ≡ double_of (worth a +ℤ worth b -ℤ worth x)
 step_roundoff {a} {b} {x} {y} r =
-    sym (double_of_worth_own y r.y-real r.y-zero)
+    sym (double_of_worth_own y r.y_real r.y_zero)
     ∙ ap double_of (sym (+ℤ-neg_ℤ_cancel (worth y) (worth x)) ∙ ap (λ (z : ℤ). z -ℤ worth x) (+ℤ_comm (worth y) (worth x) ∙ step_worth r))

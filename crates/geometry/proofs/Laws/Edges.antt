@@ -166,23 +166,23 @@ module _ (a b p : Point) (A : RealPoint a) (B : RealPoint b) (P : RealPoint p) w
   abbrev z : Spot
   z = spot_of p
 
-  x-between : lies_between a.x b.x p.x ≡ between e.from.x e.to.x z.x
-  x-between = between_worth a.x b.x p.x A.x B.x P.x
+  x_between : lies_between a.x b.x p.x ≡ between e.from.x e.to.x z.x
+  x_between = between_worth a.x b.x p.x A.x B.x P.x
 
-  y-between : lies_between a.y b.y p.y ≡ between e.from.y e.to.y z.y
-  y-between = between_worth a.y b.y p.y A.y B.y P.y
+  y_between : lies_between a.y b.y p.y ≡ between e.from.y e.to.y z.y
+  y_between = between_worth a.y b.y p.y A.y B.y P.y
 
   pub edge_apart_x : lies_between a.x b.x p.x ≡ false → false ≡ on_edge e z
   unfolding on_edge
   edge_apart_x h =
       middle_fails (is_zero (side_of_edge e z)) (between e.from.x e.to.x z.x) (between e.from.y e.to.y z.y)
-      (sym x-between ∙ h)
+      (sym x_between ∙ h)
 
   pub edge_apart_y : lies_between a.y b.y p.y ≡ false → false ≡ on_edge e z
   unfolding on_edge
   edge_apart_y h =
       last_fails (is_zero (side_of_edge e z)) (between e.from.x e.to.x z.x) (between e.from.y e.to.y z.y)
-      (sym y-between ∙ h)
+      (sym y_between ∙ h)
 
   -- the heights
   from_worth : le a.y p.y ≡ at_most e.from.y z.y
@@ -212,7 +212,7 @@ module _ (a b p : Point) (A : RealPoint a) (B : RealPoint b) (P : RealPoint p) w
     edge_met h =
         let d = side_of_edge e z in
         first_decides (is_zero (sign_number s)) (is_zero d) (between e.from.x e.to.x z.x) (between e.from.y e.to.y z.y)
-        (ap is_zero told ∙ sgn_is_zero d) (sym x-between ∙ h.x) (sym y-between ∙ h.y)
+        (ap is_zero told ∙ sgn_is_zero d) (sym x_between ∙ h.x) (sym y_between ∙ h.y)
 
     pub crossing_rising : Rises a b p → cond (is_positive (sign_number s)) Up None ≡ crossing_of e z
     unfolding is_up is_down

@@ -148,11 +148,11 @@ module _ (p q r s : HighPoint) (t : Signed) (P : HighOfDoubles p) (Q : HighOfDou
     (h : PlaneSays p q r s (Of t)) where
   within : HighWithin high_reach p × HighWithin high_reach q × HighWithin high_reach r × HighWithin high_reach s
   within =
-      let (p-in, q-in, r-in, s-in) = plane_accepted p q r s t h in (
-        high_accepted_within p P p-in,
-        high_accepted_within q Q q-in,
-        high_accepted_within r R r-in,
-        high_accepted_within s S s-in,
+      let (p_in, q_in, r_in, s_in) = plane_accepted p q r s t h in (
+        high_accepted_within p P p_in,
+        high_accepted_within q Q q_in,
+        high_accepted_within r R r_in,
+        high_accepted_within s S s_in,
       )
 
   -- the sign is that of the exact determinant

@@ -43,47 +43,47 @@ dot_found : (a : Piece) → AcceptedPiece a → is_dot_by a ≡ found.is_dot (ed
 dot_found a A = dot_worth a (from_real a A) (to_real a A)
 
 module _ (a b : Piece) (A : AcceptedPiece a) (B : AcceptedPiece b) where
-  abbrev x-found : Range
-  x-found = common_of a.from.x a.to.x b.from.x b.to.x
+  abbrev x_found : Range
+  x_found = common_of a.from.x a.to.x b.from.x b.to.x
 
-  abbrev y-found : Range
-  y-found = common_of a.from.y a.to.y b.from.y b.to.y
+  abbrev y_found : Range
+  y_found = common_of a.from.y a.to.y b.from.y b.to.y
 
-  x-real : RealRange x-found
-  x-real =
+  x_real : RealRange x_found
+  x_real =
       common_real a.from.x a.to.x b.from.x b.to.x (from_real a A).x (to_real a A).x (from_real b B).x (to_real b B).x
 
-  y-real : RealRange y-found
-  y-real =
+  y_real : RealRange y_found
+  y_real =
       common_real a.from.y a.to.y b.from.y b.to.y (from_real a A).y (to_real a A).y (from_real b B).y (to_real b B).y
 
-  x-worth : range_of x-found ≡ found.common_x (edge_of a) (edge_of b)
-  x-worth =
+  x_worth : range_of x_found ≡ found.common_x (edge_of a) (edge_of b)
+  x_worth =
       common_worth a.from.x a.to.x b.from.x b.to.x (from_real a A).x (to_real a A).x (from_real b B).x (to_real b B).x
 
-  y-worth : range_of y-found ≡ found.common_y (edge_of a) (edge_of b)
-  y-worth =
+  y_worth : range_of y_found ≡ found.common_y (edge_of a) (edge_of b)
+  y_worth =
       common_worth a.from.y a.to.y b.from.y b.to.y (from_real a A).y (to_real a A).y (from_real b B).y (to_real b B).y
 
   -- nothing in common along an axis
-  x-empty : lt x-found.most x-found.least ≡ found.is_empty (found.common_x (edge_of a) (edge_of b))
-  x-empty = lt_worth x-found.most x-found.least x-real.most x-real.least ∙ ap found.is_empty x-worth
+  x_empty : lt x_found.most x_found.least ≡ found.is_empty (found.common_x (edge_of a) (edge_of b))
+  x_empty = lt_worth x_found.most x_found.least x_real.most x_real.least ∙ ap found.is_empty x_worth
 
-  y-empty : lt y-found.most y-found.least ≡ found.is_empty (found.common_y (edge_of a) (edge_of b))
-  y-empty = lt_worth y-found.most y-found.least y-real.most y-real.least ∙ ap found.is_empty y-worth
+  y_empty : lt y_found.most y_found.least ≡ found.is_empty (found.common_y (edge_of a) (edge_of b))
+  y_empty = lt_worth y_found.most y_found.least y_real.most y_real.least ∙ ap found.is_empty y_worth
 
   module _ {x y : Range} (i : InCommon a b x y) where
     pub on_line_found : meeting_said (on_line_by x y) ≡ found.on_line (found.common_x (edge_of a) (edge_of b)) (found.common_y (edge_of a) (edge_of b))
     on_line_found =
         ap₂ (λ (r s : Range). meeting_said (on_line_by r s)) i.along_x i.along_y
-        ∙ on_line_worth x-found y-found x-real y-real ∙ ap₂ found.on_line x-worth y-worth
+        ∙ on_line_worth x_found y_found x_real y_real ∙ ap₂ found.on_line x_worth y_worth
 
     pub by_end_found : (p : Point) → RealPoint p
         → meeting_said (by_end_by x y p) ≡ found.by_end (found.common_x (edge_of a) (edge_of b)) (found.common_y (edge_of a) (edge_of b)) (spot_of p)
     by_end_found p P =
         ap₂ (λ (r s : Range). meeting_said (by_end_by r s p)) i.along_x i.along_y
-        ∙ by_end_worth x-found y-found x-real y-real p P
-        ∙ ap₂ (λ (r s : found.Range). found.by_end r s (spot_of p)) x-worth y-worth
+        ∙ by_end_worth x_found y_found x_real y_real p P
+        ∙ ap₂ (λ (r s : found.Range). found.by_end r s (spot_of p)) x_worth y_worth
 
 -- ---- two signs
 signs_said : (u v : Sign) → sides_said (sides_by u v) ≡ found.sides_of (sign_number u) (sign_number v)
@@ -156,10 +156,10 @@ module _ (a b : Piece) (A : AcceptedPiece a) (B : AcceptedPiece b) where
         (e ∙ dot_found a A) (f ∙ dot_found b B)
 
   -- whether the boxes have nothing in common along an axis
-  module _ {s t : Bool} (e : s ≡ lt (x-found a b A B).most (x-found a b A B).least) (f : t ≡ lt (y-found a b A B).most (y-found a b A B).least) where
+  module _ {s t : Bool} (e : s ≡ lt (x_found a b A B).most (x_found a b A B).least) (f : t ≡ lt (y_found a b A B).most (y_found a b A B).least) where
     pub boxes_found : cond s words.apart (cond t words.apart boxed) ≡ found.decided (edge_of a) (edge_of b)
     unfolding found.decided
-    boxes_found = ap₂ (λ (i j : Bool). cond i words.apart (cond j words.apart boxed)) (e ∙ x-empty a b A B) (f ∙ y-empty a b A B)
+    boxes_found = ap₂ (λ (i j : Bool). cond i words.apart (cond j words.apart boxed)) (e ∙ x_empty a b A B) (f ∙ y_empty a b A B)
 
 -- ---- accepted points are not refused
 pub never_refused : {A : Type 0} (p q r : Point) (s : SideSign) → Accepted p → Accepted q → Accepted r → SignSays p q r s

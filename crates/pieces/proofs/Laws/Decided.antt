@@ -72,7 +72,7 @@ dot_in a b e le =
           (≤_trans (common_x a b).least (common_x a b).most _ le (lesser_first _ _));
     }
 
-module _ (a b : Edge) (x-common : (common_x a b).least ≤ᶻ (common_x a b).most) (y-common : (common_y a b).least ≤ᶻ (common_y a b).most) where
+module _ (a b : Edge) (x_common : (common_x a b).least ≤ᶻ (common_x a b).most) (y_common : (common_y a b).least ≤ᶻ (common_y a b).most) where
   -- the second is a point
   dot_touching : b.from ≡ b.to → side_of_edge a b.from ≡ pos 0 → Holds touching a b
   dot_touching e u = (
@@ -80,8 +80,8 @@ module _ (a b : Edge) (x-common : (common_x a b).least ≤ᶻ (common_x a b).mos
     record {
       shared = record {
         first =
-            point_on a b.from u (dot_in a b (ap (λ (p : Spot). p.x) e) x-common)
-            (dot_in (flipped_edge a) (flipped_edge b) (ap (λ (p : Spot). p.y) e) y-common);
+            point_on a b.from u (dot_in a b (ap (λ (p : Spot). p.x) e) x_common)
+            (dot_in (flipped_edge a) (flipped_edge b) (ap (λ (p : Spot). p.y) e) y_common);
         second = on_from b;
       };
       only = λ r h. on_dot b r e h.second;
@@ -100,7 +100,7 @@ module _ (a b : Edge) (x-common : (common_x a b).least ≤ᶻ (common_x a b).mos
   line_y : Uneven a.from.y a.to.y → side_of_edge a b.from ≡ pos 0 → side_of_edge a b.to ≡ pos 0 → Lined a b (common_y a b)
   line_y w u v =
       let t =
-      line_x (flipped_edge a) (flipped_edge b) w (side_flipped a b.from u) (side_flipped a b.to v) y-common in
+      line_x (flipped_edge a) (flipped_edge b) w (side_flipped a b.from u) (side_flipped a b.to v) y_common in
       record {
         long = λ l. holds_flipped overlapping (flipped_edge a) (flipped_edge b) (t.long l);
         short = λ l. holds_flipped touching (flipped_edge a) (flipped_edge b) (t.short l);
@@ -125,7 +125,7 @@ module _ (a b : Edge) (x-common : (common_x a b).least ≤ᶻ (common_x a b).mos
       tested (λ (m : Meeting). Holds m a b) (is_long (common_x a b)) overlapping (cond (is_long (common_y a b)) overlapping touching)
       (λ t.
       let l = (below_says (common_x a b).least (common_x a b).most).0 t in
-      (line_x a b (long_uneven a b l) u v x-common).long l)
+      (line_x a b (long_uneven a b l) u v x_common).long l)
       (λ s.
       tested (λ (m : Meeting). Holds m a b) (is_long (common_y a b)) overlapping touching
       (λ t.
@@ -135,7 +135,7 @@ module _ (a b : Edge) (x-common : (common_x a b).least ≤ᶻ (common_x a b).mos
     where
       short : is_long (common_x a b) ≡ false → is_long (common_y a b) ≡ false → Uneven a.from.x a.to.x ⊎ Uneven a.from.y a.to.y
           → Holds touching a b
-      short s t (inl w) = (line_x a b w u v x-common).short (not_below (common_x a b).least (common_x a b).most s)
+      short s t (inl w) = (line_x a b w u v x_common).short (not_below (common_x a b).least (common_x a b).most s)
       short s t (inr w) = (line_y w u v).short (not_below (common_y a b).least (common_y a b).most t)
 
   -- ---- both have a length

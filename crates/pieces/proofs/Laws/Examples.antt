@@ -33,13 +33,13 @@ level = piece (pos 0) (pos 0) (pos 4) (pos 0)
 abbrev slope : Edge
 slope = piece (pos 0) (pos 0) (pos 9) (pos 9)
 
-a-cross : Holds crossing (piece (pos 0) (pos 0) (pos 2) (pos 3)) (piece (pos 0) (pos 3) (pos 2) (pos 0))
+a_cross : Holds crossing (piece (pos 0) (pos 0) (pos 2) (pos 3)) (piece (pos 0) (pos 3) (pos 2) (pos 0))
 unfolding decided lesser greater at_most below equal
-a-cross = (decided_iff _ _ crossing).0 refl
+a_cross = (decided_iff _ _ crossing).0 refl
 
-a-tee : Holds touching level (piece (pos 2) (pos 0) (pos 2) (pos 5))
+a_tee : Holds touching level (piece (pos 2) (pos 0) (pos 2) (pos 5))
 unfolding decided lesser greater at_most below equal
-a-tee = (decided_iff _ _ touching).0 refl
+a_tee = (decided_iff _ _ touching).0 refl
 
 ends_touch : Holds touching level (piece (pos 4) (pos 0) (pos 6) (negsuc 2))
 unfolding decided lesser greater at_most below equal

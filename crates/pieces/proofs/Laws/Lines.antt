@@ -76,16 +76,16 @@ module _ (a b : Edge) (h : a.from.x <ᶻ a.to.x) (k : b.from.x ≤ᶻ b.to.x)
 
   -- within both
   record Inside (x : ℤ) : Type 0 where
-    a-least : a.from.x ≤ᶻ x
-    a-most : x ≤ᶻ a.to.x
-    b-least : b.from.x ≤ᶻ x
-    b-most : x ≤ᶻ b.to.x
+    a_least : a.from.x ≤ᶻ x
+    a_most : x ≤ᶻ a.to.x
+    b_least : b.from.x ≤ᶻ x
+    b_most : x ≤ᶻ b.to.x
 
   ending : (e : Spot) → side_of_edge a e ≡ pos 0 → IsEnd a (at e) ⊎ IsEnd b (at e) → Inside e.x → Ending e.x
   ending e w i h' = record {
     e = e;
     at_x = refl;
-    shared = record { first = along a e w h h'.a-least h'.a-most; second = on_second e w h'.b-least h'.b-most };
+    shared = record { first = along a e w h h'.a_least h'.a_most; second = on_second e w h'.b_least h'.b_most };
     end = i;
   }
 
@@ -138,19 +138,19 @@ module _ (a b : Edge) (h : a.from.x <ᶻ a.to.x) (k : b.from.x ≤ᶻ b.to.x)
     first_inside : Inside first_x
     unfolding first_x last_x
     first_inside = record {
-      a-least = greater_first a.from.x b.from.x;
-      a-most = ≤_trans first_x last_x a.to.x le (lesser_first a.to.x b.to.x);
-      b-least = greater_second a.from.x b.from.x;
-      b-most = ≤_trans first_x last_x b.to.x le (lesser_second a.to.x b.to.x);
+      a_least = greater_first a.from.x b.from.x;
+      a_most = ≤_trans first_x last_x a.to.x le (lesser_first a.to.x b.to.x);
+      b_least = greater_second a.from.x b.from.x;
+      b_most = ≤_trans first_x last_x b.to.x le (lesser_second a.to.x b.to.x);
     }
 
     last_inside : Inside last_x
     unfolding first_x last_x
     last_inside = record {
-      a-least = ≤_trans a.from.x first_x last_x (greater_first a.from.x b.from.x) le;
-      a-most = lesser_first a.to.x b.to.x;
-      b-least = ≤_trans b.from.x first_x last_x (greater_second a.from.x b.from.x) le;
-      b-most = lesser_second a.to.x b.to.x;
+      a_least = ≤_trans a.from.x first_x last_x (greater_first a.from.x b.from.x) le;
+      a_most = lesser_first a.to.x b.to.x;
+      b_least = ≤_trans b.from.x first_x last_x (greater_second a.from.x b.from.x) le;
+      b_most = lesser_second a.to.x b.to.x;
     }
 
     ordered_long : first_x <ᶻ last_x → Holds overlapping a b

@@ -113,7 +113,7 @@ module _ (p q r : Point) (P : Within reach p) (Q : Within reach q) (R : Within r
       let own : f ≡ tested (eq X plus0) (eq Y plus0) (lt E D) (lt D (neg E)) = e in
       record {
         near = (filter_facts.near_above, filter_facts.near_below);
-        enough = filter_facts.e-enough;
+        enough = filter_facts.e_enough;
         level = λ g. level (tested_level (eq X plus0) (eq Y plus0) (lt E D) (lt D (neg E)) (sym own ∙ g));
         plus = λ g. positive (tested_plus (eq X plus0) (eq Y plus0) (lt E D) (lt D (neg E)) (sym own ∙ g));
         minus = λ g. negative (tested_minus (eq X plus0) (eq Y plus0) (lt E D) (lt D (neg E)) (sym own ∙ g));

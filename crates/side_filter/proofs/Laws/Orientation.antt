@@ -140,20 +140,20 @@ pub record Filtered (px py qx qy rx ry X Y E : Float) : Type 0 where
   pub ry_py : Real binary64 (sub binary64 ry py)
   pub first_real : Real binary64 (mul binary64 (sub binary64 qx px) (sub binary64 ry py))
   pub second_real : Real binary64 (mul binary64 (sub binary64 qy py) (sub binary64 rx px))
-  pub d-real : Real binary64 (side_difference px py qx qy rx ry)
-  pub e-real : Real binary64 E
+  pub d_real : Real binary64 (side_difference px py qx qy rx ry)
+  pub e_real : Real binary64 E
   -- the filter's error bound in squares of units, as `Threshold` has it
   pub first_error : gap (apart qx px * apart ry py) (mag binary64 (mul binary64 (sub binary64 qx px) (sub binary64 ry py)) * 2 ^ 1074) * 2 ^ 54
       ≤ 7 * (mag binary64 X * mag binary64 Y)
   pub second_error : gap (apart qy py * apart rx px) (mag binary64 (mul binary64 (sub binary64 qy py) (sub binary64 rx px)) * 2 ^ 1074) * 2 ^ 54
       ≤ 7 * (mag binary64 X * mag binary64 Y)
-  pub e-least : 79 * (mag binary64 X * mag binary64 Y) ≤ mag binary64 E * 2 ^ 1074 * (10 * 2 ^ 53)
+  pub e_least : 79 * (mag binary64 X * mag binary64 Y) ≤ mag binary64 E * 2 ^ 1074 * (10 * 2 ^ 53)
   -- the same in ℤ, of the two products together: within 7 / 2 ^ 53
   pub near_above : pos (2 ^ 53) *ℤ product_difference px py qx qy rx ry
       ≤ᶻ pos (2 ^ 53) *ℤ determinant px py qx qy rx ry +ℤ pos 7 *ℤ (worth X *ℤ worth Y)
   pub near_below : pos (2 ^ 53) *ℤ determinant px py qx qy rx ry
       ≤ᶻ pos (2 ^ 53) *ℤ product_difference px py qx qy rx ry +ℤ pos 7 *ℤ (worth X *ℤ worth Y)
-  pub e-enough : pos 79 *ℤ (worth X *ℤ worth Y) ≤ᶻ pos (10 * 2 ^ 53) *ℤ (worth E *ℤ pos (2 ^ 1074))
+  pub e_enough : pos 79 *ℤ (worth X *ℤ worth Y) ≤ᶻ pos (10 * 2 ^ 53) *ℤ (worth E *ℤ pos (2 ^ 1074))
   pub positive : T (lt E (side_difference px py qx qy rx ry)) → pos 0 <ᶻ determinant px py qx qy rx ry
   pub negative : T (lt (side_difference px py qx qy rx ry) (neg E)) → determinant px py qx qy rx ry <ᶻ pos 0
   pub level : (mag binary64 X ≡ 0) ⊎ (mag binary64 Y ≡ 0) → determinant px py qx qy rx ry ≡ pos 0
@@ -222,14 +222,14 @@ module _ (k : ℕ) (h : k ≤ 434) (px py qx qy rx ry X Y K : Float) (con : Cons
         ry_py = (side ry py Ry Py).split.real;
         first_real = four.first_real;
         second_real = four.second_real;
-        d-real = four.d-real;
-        e-real = four.e-real;
+        d_real = four.d_real;
+        e_real = four.e_real;
         first_error = four.first_error;
         second_error = four.second_error;
-        e-least = four.e-least;
+        e_least = four.e_least;
         near_above = by_near products det spans near.0;
         near_below = by_near det products spans near.1;
-        e-enough = by_enough (2 ^ 1074) spans (by_mag E four.e-side) four.e-least;
+        e_enough = by_enough (2 ^ 1074) spans (by_mag E four.e_side) four.e_least;
         positive = λ t. by_positive det (both_above (plus_of v f) (minus_of v f)
             (gain qx px * loss ry py + loss qx px * gain ry py) (gain qx px * gain ry py + loss qx px * loss ry py)
             (plus_of w s) (minus_of w s) (gain qy py * loss rx px + loss qy py * gain rx px)

@@ -87,19 +87,19 @@ threshold_by K X Y = mul binary64 (mul binary64 K X) Y
 pub record Decided (sa sb sc sd : Bool) (A B C D : ℕ) (a b c d X Y E : Float) : Type 0 where
   pub first_real : Real binary64 (mul binary64 a d)
   pub second_real : Real binary64 (mul binary64 b c)
-  pub d-real : Real binary64 (difference a b c d)
-  pub e-real : Real binary64 E
+  pub d_real : Real binary64 (difference a b c d)
+  pub e_real : Real binary64 E
   -- a rounded product has the sign of the exact one, and E is not below 0
   pub first_side : (plus binary64 (mul binary64 a d) ≡ plus_of (unlike sa sd) (mag binary64 (mul binary64 a d)))
       × (minus binary64 (mul binary64 a d) ≡ minus_of (unlike sa sd) (mag binary64 (mul binary64 a d)))
   pub second_side : (plus binary64 (mul binary64 b c) ≡ plus_of (unlike sb sc) (mag binary64 (mul binary64 b c)))
       × (minus binary64 (mul binary64 b c) ≡ minus_of (unlike sb sc) (mag binary64 (mul binary64 b c)))
-  pub e-side : minus binary64 E ≡ 0
+  pub e_side : minus binary64 E ≡ 0
   -- the filter's error bound in squares of units: each rounded product is within 7 / 2 ^ 54 of X * Y of the exact one, and E, which is
   -- more than the two together, is at least 7.9 / 2 ^ 53 of it
   pub first_error : gap (A * D) (mag binary64 (mul binary64 a d) * 2 ^ 1074) * 2 ^ 54 ≤ 7 * (mag binary64 X * mag binary64 Y)
   pub second_error : gap (B * C) (mag binary64 (mul binary64 b c) * 2 ^ 1074) * 2 ^ 54 ≤ 7 * (mag binary64 X * mag binary64 Y)
-  pub e-least : 79 * (mag binary64 X * mag binary64 Y) ≤ mag binary64 E * 2 ^ 1074 * (10 * 2 ^ 53)
+  pub e_least : 79 * (mag binary64 X * mag binary64 Y) ≤ mag binary64 E * 2 ^ 1074 * (10 * 2 ^ 53)
   pub above : T (lt E (difference a b c d))
       → minus_of (unlike sa sd) (A * D) + plus_of (unlike sb sc) (B * C) < plus_of (unlike sa sd) (A * D) + minus_of (unlike sb sc) (B * C)
   pub below : T (lt (difference a b c d) (neg E))
@@ -164,8 +164,8 @@ module _ (k : ℕ) (h : k ≤ 434) (sa sb sc sd : Bool) (A B C D : ℕ) (a b c d
   constant_grains : 973 + l ≡ 921 - k + 1074
   constant_grains = omega arith
 
-  e-grains : 921 - k + l ≡ 869 - (k + k) + 1074
-  e-grains = omega arith
+  e_grains : 921 - k + l ≡ 869 - (k + k) + 1074
+  e_grains = omega arith
 
   cX : Sided false (921 - k) (1026 + k) (mul binary64 K X) (rn 53 Qc)
   cX =
@@ -179,12 +179,12 @@ module _ (k : ℕ) (h : k ≤ 434) (sa sb sc sd : Bool) (A B C D : ℕ) (a b c d
   e : Sided false (869 - (k + k)) (1027 + (k + k)) (threshold_by K X Y) (rn 53 QE)
   e =
       mul_sided false false (921 - k) (1026 + k) l m (869 - (k + k)) (mul binary64 K X) Y (rn 53 Qc) (mag binary64 Y) cX YS
-      e-grains (1027 + (k + k)) (omega arith) (omega arith)
+      e_grains (1027 + (k + k)) (omega arith) (omega arith)
 
-  e-whole : rn 53 Qc * mag binary64 Y ≡ QE * 2 ^ 1074
-  e-whole =
+  e_whole : rn 53 Qc * mag binary64 Y ≡ QE * 2 ^ 1074
+  e_whole =
       units_whole false false (921 - k) (1026 + k) l m (869 - (k + k)) (mul binary64 K X) Y (rn 53 Qc) (mag binary64 Y) cX YS
-      e-grains
+      e_grains
 
   -- D does not overflow
   room : rn 53 (gap (plus_of v (rn 53 Q1) + minus_of w (rn 53 Q2)) (minus_of v (rn 53 Q1) + plus_of w (rn 53 Q2))) < overflow binary64
@@ -214,23 +214,23 @@ module _ (k : ℕ) (h : k ≤ 434) (sa sb sc sd : Bool) (A B C D : ℕ) (a b c d
   decide = record {
     first_real = first.split.real;
     second_real = second.split.real;
-    d-real = (difference_parts v w (mul binary64 a d) (mul binary64 b c) (rn 53 Q1) (rn 53 Q2) first.split second.split room).real;
-    e-real = e.split.real;
+    d_real = (difference_parts v w (mul binary64 a d) (mul binary64 b c) (rn 53 Q1) (rn 53 Q2) first.split second.split room).real;
+    e_real = e.split.real;
     first_side = own_side first.split;
     second_side = own_side second.split;
-    e-side = e.split.other;
+    e_side = e.split.other;
     first_error = subst (λ (n : ℕ). gap (A * D) (n * 2 ^ 1074) * 2 ^ 54 ≤ 7 * (mag binary64 X * mag binary64 Y)) (sym (split_mag first.split))
         (rounded_error (2 ^ 1074) A D (mag binary64 X) (mag binary64 Y) Q1 first_whole (under ra GX.first) (under rd GY.second));
     second_error = subst (λ (n : ℕ). gap (B * C) (n * 2 ^ 1074) * 2 ^ 54 ≤ 7 * (mag binary64 X * mag binary64 Y)) (sym (split_mag second.split))
         (le_trans (rounded_error (2 ^ 1074) B C (mag binary64 Y) (mag binary64 X) Q2 second_whole (under rb GY.first) (under rc GX.second))
         (le_of_eq (ap (λ (z : ℕ). 7 * z) (mul_comm (mag binary64 Y) (mag binary64 X)))));
-    e-least = subst (λ (n : ℕ). 79 * (mag binary64 X * mag binary64 Y) ≤ n * 2 ^ 1074 * (10 * 2 ^ 53)) (sym (split_mag e.split))
+    e_least = subst (λ (n : ℕ). 79 * (mag binary64 X * mag binary64 Y) ≤ n * 2 ^ 1074 * (10 * 2 ^ 53)) (sym (split_mag e.split))
         (threshold_least constant_units (mag binary64 X) (mag binary64 Y) (2 ^ 1074) Qc (rn 53 Qc) QE (rn 53 QE) (pow_pos 1074)
-        con.least c_x_whole (rn_error 53 Qc (zero-lt-suc 52)) e-whole (rn_error 53 QE (zero-lt-suc 52)));
+        con.least c_x_whole (rn_error 53 Qc (zero-lt-suc 52)) e_whole (rn_error 53 QE (zero-lt-suc 52)));
     above = λ t. filter (2 ^ 1074) (pow_pos 1074) v w A B C D (mag binary64 X) (mag binary64 Y) Q1 Q2 constant_units Qc (rn 53 Qc)
         QE (rn 53 QE) (plus_of v (rn 53 Q1) + minus_of w (rn 53 Q2) - (minus_of v (rn 53 Q1) + plus_of w (rn 53 Q2))) first_whole second_whole
         (under ra GX.first) (under rc GX.second) (under rb GY.first) (under rd GY.second)
-        con.least c_x_whole refl e-whole refl refl
+        con.least c_x_whole refl e_whole refl refl
         (difference_above v w (mul binary64 a d) (mul binary64 b c) (rn 53 Q1) (rn 53 Q2) first.split second.split room
         (threshold_by K X Y) (rn 53 QE) e.split t);
     below = λ t. turned v w (filter (2 ^ 1074) (pow_pos 1074) w v C D A B (mag binary64 X) (mag binary64 Y) Q2 Q1
@@ -238,7 +238,7 @@ module _ (k : ℕ) (h : k ≤ 434) (sa sb sc sd : Bool) (A B C D : ℕ) (a b c d
         (minus_of v (rn 53 Q1) + plus_of w (rn 53 Q2) - (plus_of v (rn 53 Q1) + minus_of w (rn 53 Q2)))
         (mul_comm (rn 53 C) (rn 53 B) ∙ second_whole) (mul_comm (rn 53 D) (rn 53 A) ∙ first_whole)
         (under rc GX.second) (under ra GX.first) (under rd GY.second) (under rb GY.first)
-        con.least c_x_whole refl e-whole refl
+        con.least c_x_whole refl e_whole refl
         (swapped (plus_of v (rn 53 Q1)) (minus_of v (rn 53 Q1)) (plus_of w (rn 53 Q2)) (minus_of w (rn 53 Q2)))
         (difference_below v w (mul binary64 a d) (mul binary64 b c) (rn 53 Q1) (rn 53 Q2) first.split second.split room
         (threshold_by K X Y) (rn 53 QE) e.split t));

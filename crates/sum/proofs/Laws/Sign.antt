@@ -110,13 +110,13 @@ module _ (xs : List Float) (a : AllReal xs) (short : length xs ≤ 2 ^ prec bina
   by_sides_lem : (v : Verdict) → Says v (pos P -ℤ pos M) → Says v (total_of xs)
   by_sides_lem v h = subst (Says v) (sym (total_sides xs)) h
 
-  p-split : Split false binary64 (extreme_of false xs) (far false (extreme_of false xs)) 0
+  p_split : Split false binary64 (extreme_of false xs) (far false (extreme_of false xs)) 0
   unfolding far
-  p-split = let r = extreme false xs a in record { real = r.real; same = refl; other = r.only }
+  p_split = let r = extreme false xs a in record { real = r.real; same = refl; other = r.only }
 
-  q-split : Split false binary64 (neg (extreme_of true xs)) (far true (extreme_of true xs)) 0
+  q_split : Split false binary64 (neg (extreme_of true xs)) (far true (extreme_of true xs)) 0
   unfolding far
-  q-split =
+  q_split =
       let r = extreme true xs a in
       let s = neg_split false binary64 (extreme_of true xs) r.real in
       record { real = s.real; same = s.same; other = s.other ∙ r.only }
@@ -140,11 +140,11 @@ module _ (xs : List Float) (a : AllReal xs) (short : length xs ≤ 2 ^ prec bina
   says (greater m n t) =
       by_sides_lem (Decided Plus) (sym ((sgn_nat_positive P M).1 (outweighs true false m
       (decision_greater binary64 (extreme_of false xs) (neg (extreme_of true xs)) (count_of true xs) (far false (extreme_of false xs))
-      (far true (extreme_of true xs)) p-split q-split (counted true) t))))
+      (far true (extreme_of true xs)) p_split q_split (counted true) t))))
   says (less m n t) =
       by_sides_lem (Decided Minus) (sym ((sgn_nat_negative P M).1 (outweighs false true n
       (decision_greater binary64 (neg (extreme_of true xs)) (extreme_of false xs) (count_of false xs) (far true (extreme_of true xs))
-      (far false (extreme_of false xs)) q-split p-split (counted false) t))))
+      (far false (extreme_of false xs)) q_split p_split (counted false) t))))
   says (close m n t u) = tt
 
   -- a sign is that of the exact sum, whatever decides it

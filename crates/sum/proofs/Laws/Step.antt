@@ -30,12 +30,12 @@ use Rattle.sum.proofs.Laws.Verdict.{Open, undecided_open}
 -- ---- the two extremes: p is positive, q is negative
 
 pub record Facing (p q : Float) : Type 0 where
-  pub p-real : Real binary64 p
-  pub q-real : Real binary64 q
-  pub p-sign : sign_bit p ≡ false
-  pub q-sign : sign_bit q ≡ true
-  pub p-some : 0 < mag binary64 p
-  pub q-some : 0 < mag binary64 q
+  pub p_real : Real binary64 p
+  pub q_real : Real binary64 q
+  pub p_sign : sign_bit p ≡ false
+  pub q_sign : sign_bit q ≡ true
+  pub p_some : 0 < mag binary64 p
+  pub q_some : 0 < mag binary64 q
 
 pub facing : (xs : List Float) → AllReal xs → 0 < count_of false xs → 0 < count_of true xs → Facing (extreme_of false xs) (extreme_of true xs)
 facing xs a m n =
@@ -44,44 +44,44 @@ facing xs a m n =
     let ps = far_sign false (extreme_of false xs) (P.found m) in
     let qs = far_sign true (extreme_of true xs) (Q.found n) in
     record {
-      p-real = P.real;
-      q-real = Q.real;
-      p-sign = ps.0;
-      q-sign = qs.0;
-      p-some = subst (λ (k : ℕ). 0 < k) (sym ps.1) (P.found m);
-      q-some = subst (λ (k : ℕ). 0 < k) (sym qs.1) (Q.found n);
+      p_real = P.real;
+      q_real = Q.real;
+      p_sign = ps.0;
+      q_sign = qs.0;
+      p_some = subst (λ (k : ℕ). 0 < k) (sym ps.1) (P.found m);
+      q_some = subst (λ (k : ℕ). 0 < k) (sym qs.1) (Q.found n);
     }
 
 module _ (p q : Float) (r : Facing p q) where
-  p-split : Split false binary64 p (mag binary64 p) 0
-  p-split = split_own false binary64 p r.p-real r.p-sign
+  p_split : Split false binary64 p (mag binary64 p) 0
+  p_split = split_own false binary64 p r.p_real r.p_sign
 
-  q-split : Split false binary64 (neg q) (mag binary64 q) 0
-  q-split = neg_own false binary64 q r.q-real r.q-sign
+  q_split : Split false binary64 (neg q) (mag binary64 q) 0
+  q_split = neg_own false binary64 q r.q_real r.q_sign
 
   down : mag binary64 q ≤ mag binary64 p → Opposed binary64 p q
   down h = record {
-    a-real = r.p-real;
-    b-real = r.q-real;
-    unlike = r.q-sign ∙ ap not (sym r.p-sign);
-    nonzero = r.q-some;
+    a_real = r.p_real;
+    b_real = r.q_real;
+    unlike = r.q_sign ∙ ap not (sym r.p_sign);
+    nonzero = r.q_some;
     larger = h;
   }
 
   up : mag binary64 p ≤ mag binary64 q → Opposed binary64 q p
   up h = record {
-    a-real = r.q-real;
-    b-real = r.p-real;
-    unlike = r.p-sign ∙ ap not (sym r.q-sign);
-    nonzero = r.p-some;
+    a_real = r.q_real;
+    b_real = r.p_real;
+    unlike = r.p_sign ∙ ap not (sym r.q_sign);
+    nonzero = r.p_some;
     larger = h;
   }
 
   test_down : lt (neg q) p ≡ ltb (mag binary64 q) (mag binary64 p)
-  test_down = lt_split false binary64 (neg q) p (mag binary64 q) (mag binary64 p) q-split p-split
+  test_down = lt_split false binary64 (neg q) p (mag binary64 q) (mag binary64 p) q_split p_split
 
   test_up : lt p (neg q) ≡ ltb (mag binary64 p) (mag binary64 q)
-  test_up = lt_split false binary64 p (neg q) (mag binary64 p) (mag binary64 q) p-split q-split
+  test_up = lt_split false binary64 p (neg q) (mag binary64 p) (mag binary64 q) p_split q_split
 
   -- the tests: p is the larger, q is, or neither
   pub facing_down : lt (neg q) p ≡ true → Opposed binary64 p q
@@ -148,8 +148,8 @@ Shrinks d p q u v =
 
 -- u and v; m entries are on p's side, n on q's
 pub record Becomes (m n : ℕ) (p q u v : Float) : Type 0 where
-  pub u-real : Real binary64 u
-  pub v-real : Real binary64 v
+  pub u_real : Real binary64 u
+  pub v_real : Real binary64 v
   pub exact : worth u +ℤ worth v ≡ worth p +ℤ worth q
   pub grain : (j : ℕ) → 2 ^ j ∣ mag binary64 p → 2 ^ j ∣ mag binary64 q → (2 ^ j ∣ mag binary64 u) × (2 ^ j ∣ mag binary64 v)
   pub shrinks : (d k : ℕ) → prec binary64 ≡ d + k → m ≤ 2 ^ k → n ≤ 2 ^ k → Shrinks d p q u v
@@ -163,11 +163,11 @@ becomes_step : (m n : ℕ) (a b : Float) → Opposed binary64 a b → Near n a b
 becomes_step m n a b o near =
     let s = step binary64 a b o in
     subst (λ (y : Float). Becomes m n a b (rounded a b) y) (step_roundoff s) (record {
-      u-real = s.x-real;
-      v-real = s.y-real;
+      u_real = s.x_real;
+      v_real = s.y_real;
       exact = step_worth s;
       grain = s.grain;
-      shrinks = λ d k e _ l. inl (s.x-le, step_shrinks s d k e o.nonzero (near k l (part_le d k (prec binary64) e)));
+      shrinks = λ d k e _ l. inl (s.x_le, step_shrinks s d k e o.nonzero (near k l (part_le d k (prec binary64) e)));
     })
   where
     part_le : (d k p : ℕ) → p ≡ d + k → k ≤ p
@@ -185,8 +185,8 @@ becomes_nothing m n a b o e near =
 -- the same with the two exchanged
 becomes_turn : {m n : ℕ} {p q u v : Float} → Becomes m n p q u v → Becomes n m q p v u
 becomes_turn {m} {n} {p} {q} {u} {v} r = record {
-  u-real = r.v-real;
-  v-real = r.u-real;
+  u_real = r.v_real;
+  v_real = r.u_real;
   exact = +ℤ_comm (worth v) (worth u) ∙ r.exact ∙ +ℤ_comm (worth p) (worth q);
   grain = λ j a b. let g = r.grain j b a in (g.1, g.0);
   shrinks = λ d k e a b. elim (r.shrinks d k e b a) [ inl h ↦ inr (h.1, h.0) | inr h ↦ inl (h.1, h.0) ];
@@ -225,21 +225,21 @@ step_cases xs e a = go (lt (neg q) p) (lt p (neg q)) refl refl
     f = facing xs a o.positives o.negatives
 
     -- neither test of the look holds
-    p-near : Near n p q
-    p-near k h l =
-        decision_close binary64 p (neg q) n (mag binary64 p) (mag binary64 q) (p-split p q f) (q-split p q f)
+    p_near : Near n p q
+    p_near k h l =
+        decision_close binary64 p (neg q) n (mag binary64 p) (mag binary64 q) (p_split p q f) (q_split p q f)
         (le_trans h (pow_mono l)) k h o.above
 
-    q-near : Near m q p
-    q-near k h l =
-        decision_close binary64 (neg q) p m (mag binary64 q) (mag binary64 p) (q-split p q f) (p-split p q f)
+    q_near : Near m q p
+    q_near k h l =
+        decision_close binary64 (neg q) p m (mag binary64 q) (mag binary64 p) (q_split p q f) (p_split p q f)
         (le_trans h (pow_mono l)) k h o.below
 
     go : (s t : Bool) → lt (neg q) p ≡ s → lt p (neg q) ≡ t → (u : Float) × (v : Float) × Writes xs u v
     go true t b c = (
       rounded p q,
       roundoff p q,
-      record { list = step_down xs b; becomes = becomes_step m n p q (facing_down p q f b) p-near },
+      record { list = step_down xs b; becomes = becomes_step m n p q (facing_down p q f b) p_near },
     )
     go false true b c = (
       roundoff p q,
@@ -248,14 +248,14 @@ step_cases xs e a = go (lt (neg q) p) (lt p (neg q)) refl refl
         list = step_up xs b c;
         becomes = subst (λ (u : Float). Becomes m n p q u (rounded p q)) (roundoff_turn p q)
             (subst (λ (v : Float). Becomes m n p q (roundoff q p) v) (rounded_turn p q)
-            (becomes_turn (becomes_step n m q p (facing_up p q f c) q-near)));
+            (becomes_turn (becomes_step n m q p (facing_up p q f c) q_near)));
       },
     )
     go false false b c = (
       plus0,
       plus0,
       let z = facing_level p q f b c in
-          record { list = step_level xs b c; becomes = becomes_nothing m n p q z.0 z.1 p-near },
+          record { list = step_level xs b c; becomes = becomes_nothing m n p q z.0 z.1 p_near },
     )
 
 pub step_real : (xs : List Float) → verdict_of xs ≡ Undecided → AllReal xs → AllReal (step_of xs)
@@ -263,5 +263,5 @@ step_real xs e a =
     let (u, v, w) = step_cases xs e a in
     let ys = set xs (index_of false xs) u in
     subst AllReal (sym w.list)
-    (all_set (Real binary64) ys (index_of true xs) v (all_set (Real binary64) xs (index_of false xs) u a w.becomes.u-real)
-    w.becomes.v-real)
+    (all_set (Real binary64) ys (index_of true xs) v (all_set (Real binary64) xs (index_of false xs) u a w.becomes.u_real)
+    w.becomes.v_real)

@@ -45,24 +45,24 @@ module _ (xs : List Float) (a : AllReal xs) (o : Open xs) (u v : Float) where
   abbrev ys : List Float
   ys = set xs i u
 
-  i-in : i < length xs
-  i-in = (extreme false xs a).inside o.positives
+  i_in : i < length xs
+  i_in = (extreme false xs a).inside o.positives
 
-  j-in : j < length ys
-  j-in = lt-length-set xs i u ((extreme true xs a).inside o.negatives)
+  j_in : j < length ys
+  j_in = lt-length-set xs i u ((extreme true xs a).inside o.negatives)
 
-  i-is : get_or xs i plus0 ≡ extreme_of false xs
-  i-is = (extreme false xs a).entry plus0 o.positives
+  i_is : get_or xs i plus0 ≡ extreme_of false xs
+  i_is = (extreme false xs a).entry plus0 o.positives
 
-  j-is : get_or ys j plus0 ≡ extreme_of true xs
-  j-is =
+  j_is : get_or ys j plus0 ≡ extreme_of true xs
+  j_is =
       get_or-set_other xs i j u plus0 (λ e. extreme_apart xs a o.positives o.negatives (sym e))
       ∙ (extreme true xs a).entry plus0 o.negatives
 
   pub put_sum : (g : Float → ℕ) → sum_of g (put xs u v) + (g (extreme_of false xs) + g (extreme_of true xs)) ≡ sum_of g xs + (g u + g v)
   put_sum g =
       join (sum_of g xs) (sum_of g ys) (sum_of g (put xs u v)) (g (extreme_of false xs)) (g (extreme_of true xs)) (g u) (g v)
-      (rw i-is at (sum_set g xs i u plus0 i-in)) (rw j-is at (sum_set g ys j v plus0 j-in))
+      (rw i_is at (sum_set g xs i u plus0 i_in)) (rw j_is at (sum_set g ys j v plus0 j_in))
     where
       join : (s t r p q u v : ℕ) → t + p ≡ s + u → r + q ≡ t + v → r + (p + q) ≡ s + (u + v)
       join s t r p q u v e f = omega arith
@@ -70,7 +70,7 @@ module _ (xs : List Float) (a : AllReal xs) (o : Open xs) (u v : Float) where
   pub put_total : total_of (put xs u v) +ℤ (worth (extreme_of false xs) +ℤ worth (extreme_of true xs)) ≡ total_of xs +ℤ (worth u +ℤ worth v)
   put_total =
       join (total_of xs) (total_of ys) (total_of (put xs u v)) (worth (extreme_of false xs)) (worth (extreme_of true xs)) (worth u) (worth v)
-      (rw i-is at (total_set xs i u plus0 i-in)) (rw j-is at (total_set ys j v plus0 j-in))
+      (rw i_is at (total_set xs i u plus0 i_in)) (rw j_is at (total_set ys j v plus0 j_in))
     where
       join : (s t r p q u v : ℤ) → t +ℤ p ≡ s +ℤ u → r +ℤ q ≡ t +ℤ v → r +ℤ (p +ℤ q) ≡ s +ℤ (u +ℤ v)
       join s t r p q u v =

@@ -142,17 +142,17 @@ one-*ℤ : (z : ℤ) → pos 1 *ℤ z ≡ z
 unfolding one
 one-*ℤ z = *ℤ_comm (pos 1) z ∙ *ℤ-one z
 
-*ℤ-left-comm : (a b c : ℤ) → a *ℤ (b *ℤ c) ≡ b *ℤ (a *ℤ c)
-*ℤ-left-comm a b c = sym (*ℤ-assoc a b c) ∙ ap (λ (t : ℤ). t *ℤ c) (*ℤ_comm a b) ∙ *ℤ-assoc b a c
+*ℤ_left_comm : (a b c : ℤ) → a *ℤ (b *ℤ c) ≡ b *ℤ (a *ℤ c)
+*ℤ_left_comm a b c = sym (*ℤ-assoc a b c) ∙ ap (λ (t : ℤ). t *ℤ c) (*ℤ_comm a b) ∙ *ℤ-assoc b a c
 
-+ℤ-left-comm : (a b c : ℤ) → a +ℤ (b +ℤ c) ≡ b +ℤ (a +ℤ c)
-+ℤ-left-comm a b c = sym (+ℤ_assoc a b c) ∙ ap (λ (t : ℤ). t +ℤ c) (+ℤ_comm a b) ∙ +ℤ_assoc b a c
++ℤ_left_comm : (a b c : ℤ) → a +ℤ (b +ℤ c) ≡ b +ℤ (a +ℤ c)
++ℤ_left_comm a b c = sym (+ℤ_assoc a b c) ∙ ap (λ (t : ℤ). t +ℤ c) (+ℤ_comm a b) ∙ +ℤ_assoc b a c
 
 +ℤ-*ℤ : (a b c : ℤ) → (a +ℤ b) *ℤ c ≡ a *ℤ c +ℤ b *ℤ c
 +ℤ-*ℤ a b c = *ℤ_comm (a +ℤ b) c ∙ *ℤ-+ℤ c a b ∙ ap₂ ◌+ℤ◌ (*ℤ_comm c a) (*ℤ_comm c b)
 
 *ℤ-cross : (a b c d : ℤ) → (a *ℤ b) *ℤ (c *ℤ d) ≡ (a *ℤ c) *ℤ (b *ℤ d)
-*ℤ-cross a b c d = *ℤ-assoc a b (c *ℤ d) ∙ ap (λ (t : ℤ). a *ℤ t) (*ℤ-left-comm b c d) ∙ sym (*ℤ-assoc a c (b *ℤ d))
+*ℤ-cross a b c d = *ℤ-assoc a b (c *ℤ d) ∙ ap (λ (t : ℤ). a *ℤ t) (*ℤ_left_comm b c d) ∙ sym (*ℤ-assoc a c (b *ℤ d))
 
 -- monomials that compare equal are one
 then_eq : (o p : Ordering) → T (compare_is_eq (then o p)) → T (compare_is_eq o) × T (compare_is_eq p)
@@ -178,7 +178,7 @@ module _ (ρ : List ℤ) where
   mono_insert i [] = refl
   mono_insert i (j ∷ m) =
       mono_pick (compare i j) (i ∷ j ∷ m) (j ∷ insert i m) (nth ρ i *ℤ (nth ρ j *ℤ mono m ρ)) refl
-      (ap (λ (t : ℤ). nth ρ j *ℤ t) (mono_insert i m) ∙ *ℤ-left-comm (nth ρ j) (nth ρ i) (mono m ρ))
+      (ap (λ (t : ℤ). nth ρ j *ℤ t) (mono_insert i m) ∙ *ℤ_left_comm (nth ρ j) (nth ρ i) (mono m ρ))
 
   mono_join : (m n : List ℕ) → mono (join m n) ρ ≡ mono m ρ *ℤ mono n ρ
   mono_join [] n = sym (one-*ℤ (mono n ρ))
@@ -199,7 +199,7 @@ module _ (ρ : List ℤ) where
       ∙ +ℤ_assoc (k *ℤ mono n ρ) (j *ℤ mono n ρ) (total s ρ)
       ∙ ap (λ (u : List ℕ). k *ℤ mono u ρ +ℤ (j *ℤ mono n ρ +ℤ total s ρ)) (sym (e tt))
   total_beside Ordering.gt k m j n s t e h =
-      ap (λ (u : ℤ). j *ℤ mono n ρ +ℤ u) h ∙ +ℤ-left-comm (j *ℤ mono n ρ) (k *ℤ mono m ρ) (total s ρ)
+      ap (λ (u : ℤ). j *ℤ mono n ρ +ℤ u) h ∙ +ℤ_left_comm (j *ℤ mono n ρ) (k *ℤ mono m ρ) (total s ρ)
 
   total_put : (k : ℤ) (m : List ℕ) (s : Sum) → total (put k m s) ρ ≡ k *ℤ mono m ρ +ℤ total s ρ
   total_put k m none = total_front k m none

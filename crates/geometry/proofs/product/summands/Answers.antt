@@ -26,39 +26,39 @@ pair x y r e es = joined e.rounded (joined e.roundoff es)
 
 pub exact_product-a-requires : goal.exact_product-a-requires
 exact_product-a-requires c =
-    let q-within : Within reach c.args.q = accepted_within_lem c.args.q (held c.well_formed.1.0.1.1.0.1) (held c.well_formed.1.0.1.1.1.0.1) c.requires.1 in
-    let r-within : Within reach c.args.r = accepted_within_lem c.args.r (held c.well_formed.1.1.0.1.1.0.1) (held c.well_formed.1.1.0.1.1.1.0.1) c.requires.2 in
-    factors_reach reach (lit≤ tt) q-within.x r-within.y
+    let q_within : Within reach c.args.q = accepted_within_lem c.args.q (held c.well_formed.1.0.1.1.0.1) (held c.well_formed.1.0.1.1.1.0.1) c.requires.1 in
+    let r_within : Within reach c.args.r = accepted_within_lem c.args.r (held c.well_formed.1.1.0.1.1.0.1) (held c.well_formed.1.1.0.1.1.1.0.1) c.requires.2 in
+    factors_reach reach (lit≤ tt) q_within.x r_within.y
 
 pub exact_product-b-requires : goal.exact_product-b-requires
 exact_product-b-requires c =
-    let q-within : Within reach c.args.q = accepted_within_lem c.args.q (held c.well_formed.1.0.1.1.0.1) (held c.well_formed.1.0.1.1.1.0.1) c.requires.1 in
-    let p-within : Within reach c.args.p = accepted_within_lem c.args.p (held c.well_formed.0.1.1.0.1) (held c.well_formed.0.1.1.1.0.1) c.requires.0 in
-    factors_reach reach (lit≤ tt) (sized_neg q-within.x) p-within.y
+    let q_within : Within reach c.args.q = accepted_within_lem c.args.q (held c.well_formed.1.0.1.1.0.1) (held c.well_formed.1.0.1.1.1.0.1) c.requires.1 in
+    let p_within : Within reach c.args.p = accepted_within_lem c.args.p (held c.well_formed.0.1.1.0.1) (held c.well_formed.0.1.1.1.0.1) c.requires.0 in
+    factors_reach reach (lit≤ tt) (sized_neg q_within.x) p_within.y
 
 pub exact_product-c-requires : goal.exact_product-c-requires
 exact_product-c-requires c =
-    let p-within : Within reach c.args.p = accepted_within_lem c.args.p (held c.well_formed.0.1.1.0.1) (held c.well_formed.0.1.1.1.0.1) c.requires.0 in
-    let r-within : Within reach c.args.r = accepted_within_lem c.args.r (held c.well_formed.1.1.0.1.1.0.1) (held c.well_formed.1.1.0.1.1.1.0.1) c.requires.2 in
-    factors_reach reach (lit≤ tt) (sized_neg p-within.x) r-within.y
+    let p_within : Within reach c.args.p = accepted_within_lem c.args.p (held c.well_formed.0.1.1.0.1) (held c.well_formed.0.1.1.1.0.1) c.requires.0 in
+    let r_within : Within reach c.args.r = accepted_within_lem c.args.r (held c.well_formed.1.1.0.1.1.0.1) (held c.well_formed.1.1.0.1.1.1.0.1) c.requires.2 in
+    factors_reach reach (lit≤ tt) (sized_neg p_within.x) r_within.y
 
 pub exact_product-d-requires : goal.exact_product-d-requires
 exact_product-d-requires c =
-    let q-within : Within reach c.args.q = accepted_within_lem c.args.q (held c.well_formed.1.0.1.1.0.1) (held c.well_formed.1.0.1.1.1.0.1) c.requires.1 in
-    let r-within : Within reach c.args.r = accepted_within_lem c.args.r (held c.well_formed.1.1.0.1.1.0.1) (held c.well_formed.1.1.0.1.1.1.0.1) c.requires.2 in
-    factors_reach reach (lit≤ tt) (sized_neg q-within.y) r-within.x
+    let q_within : Within reach c.args.q = accepted_within_lem c.args.q (held c.well_formed.1.0.1.1.0.1) (held c.well_formed.1.0.1.1.1.0.1) c.requires.1 in
+    let r_within : Within reach c.args.r = accepted_within_lem c.args.r (held c.well_formed.1.1.0.1.1.0.1) (held c.well_formed.1.1.0.1.1.1.0.1) c.requires.2 in
+    factors_reach reach (lit≤ tt) (sized_neg q_within.y) r_within.x
 
 pub exact_product-e-requires : goal.exact_product-e-requires
 exact_product-e-requires c =
-    let q-within : Within reach c.args.q = accepted_within_lem c.args.q (held c.well_formed.1.0.1.1.0.1) (held c.well_formed.1.0.1.1.1.0.1) c.requires.1 in
-    let p-within : Within reach c.args.p = accepted_within_lem c.args.p (held c.well_formed.0.1.1.0.1) (held c.well_formed.0.1.1.1.0.1) c.requires.0 in
-    factors_reach reach (lit≤ tt) q-within.y p-within.x
+    let q_within : Within reach c.args.q = accepted_within_lem c.args.q (held c.well_formed.1.0.1.1.0.1) (held c.well_formed.1.0.1.1.1.0.1) c.requires.1 in
+    let p_within : Within reach c.args.p = accepted_within_lem c.args.p (held c.well_formed.0.1.1.0.1) (held c.well_formed.0.1.1.1.0.1) c.requires.0 in
+    factors_reach reach (lit≤ tt) q_within.y p_within.x
 
 pub exact_product-f-requires : goal.exact_product-f-requires
 exact_product-f-requires c =
-    let p-within : Within reach c.args.p = accepted_within_lem c.args.p (held c.well_formed.0.1.1.0.1) (held c.well_formed.0.1.1.1.0.1) c.requires.0 in
-    let r-within : Within reach c.args.r = accepted_within_lem c.args.r (held c.well_formed.1.1.0.1.1.0.1) (held c.well_formed.1.1.0.1.1.1.0.1) c.requires.2 in
-    factors_reach reach (lit≤ tt) p-within.y r-within.x
+    let p_within : Within reach c.args.p = accepted_within_lem c.args.p (held c.well_formed.0.1.1.0.1) (held c.well_formed.0.1.1.1.0.1) c.requires.0 in
+    let r_within : Within reach c.args.r = accepted_within_lem c.args.r (held c.well_formed.1.1.0.1.1.0.1) (held c.well_formed.1.1.0.1.1.1.0.1) c.requires.2 in
+    factors_reach reach (lit≤ tt) p_within.y r_within.x
 
 pub returns : goal.returns
 unfolding summands_of

@@ -36,13 +36,13 @@ returns-then-r-eq0 c =
 pub overflow_add-exact_place : goal.overflow_add-exact_place
 overflow_add-exact_place c =
     let F = c.requires.0 in
-    omega (arith, exponent_few _ F.x-real, exponent_few _ F.y-real, c.whole_magnitude-a.ensures.1, c.whole_magnitude-b.ensures.1)
+    omega (arith, exponent_few _ F.x_real, exponent_few _ F.y_real, c.whole_magnitude-a.ensures.1, c.whole_magnitude-b.ensures.1)
 
 pub overflow_add-rounded_place : goal.overflow_add-rounded_place
 overflow_add-rounded_place c =
-    let rounded-few : c.whole_magnitude-r.result.exponent ≤ 2045 = (le_trans (le_of_eq (c.whole_magnitude-r.ensures.1 ∙ ap (λ (z : Float). exponent_of (mag binary64 z)) c.requires.1))
+    let rounded_few : c.whole_magnitude-r.result.exponent ≤ 2045 = (le_trans (le_of_eq (c.whole_magnitude-r.ensures.1 ∙ ap (λ (z : Float). exponent_of (mag binary64 z)) c.requires.1))
     (exponent_few (mul binary64 c.args.x c.args.y) (rounded_known c.requires.0).real)) in
-    omega (arith, rounded-few)
+    omega (arith, rounded_few)
 
 pub returns-then-rounded_place-exact_place : goal.returns-then-rounded_place-exact_place
 returns-then-rounded_place-exact_place c =
@@ -92,10 +92,10 @@ overflow_sub-lack c =
 
 pub double_of-requires : goal.double_of-requires
 double_of-requires c =
-    let rounded-few : c.whole_magnitude-r.result.exponent ≤ 2045 = (le_trans (le_of_eq (c.whole_magnitude-r.ensures.1 ∙ ap (λ (z : Float). exponent_of (mag binary64 z)) c.requires.1))
+    let rounded_few : c.whole_magnitude-r.result.exponent ≤ 2045 = (le_trans (le_of_eq (c.whole_magnitude-r.ensures.1 ∙ ap (λ (z : Float). exponent_of (mag binary64 z)) c.requires.1))
     (exponent_few (mul binary64 c.args.x c.args.y) (rounded_known c.requires.0).real)) in
     let asked : (0 < c.whole_magnitude-r.result.exponent)
-    × (c.whole_magnitude-r.result.exponent ≤ 2046) = (pos_of_ne-zero c.if-r-eq0.false, omega (arith, rounded-few)) in
+    × (c.whole_magnitude-r.result.exponent ≤ 2046) = (pos_of_ne-zero c.if-r-eq0.false, omega (arith, rounded_few)) in
     let found : Cut c.args.x c.args.y
     (c.whole_magnitude-a.result.significand * c.whole_magnitude-b.result.significand)
     (c.whole_magnitude-a.result.exponent + c.whole_magnitude-b.result.exponent)
@@ -139,10 +139,10 @@ returns-then-rounded c =
 
 pub double_of-requires-2 : goal.double_of-requires-2
 double_of-requires-2 c =
-    let rounded-few : c.whole_magnitude-r.result.exponent ≤ 2045 = (le_trans (le_of_eq (c.whole_magnitude-r.ensures.1 ∙ ap (λ (z : Float). exponent_of (mag binary64 z)) c.requires.1))
+    let rounded_few : c.whole_magnitude-r.result.exponent ≤ 2045 = (le_trans (le_of_eq (c.whole_magnitude-r.ensures.1 ∙ ap (λ (z : Float). exponent_of (mag binary64 z)) c.requires.1))
     (exponent_few (mul binary64 c.args.x c.args.y) (rounded_known c.requires.0).real)) in
     let asked : (0 < c.whole_magnitude-r.result.exponent)
-    × (c.whole_magnitude-r.result.exponent ≤ 2046) = (pos_of_ne-zero c.if-r-eq0.false, omega (arith, rounded-few)) in
+    × (c.whole_magnitude-r.result.exponent ≤ 2046) = (pos_of_ne-zero c.if-r-eq0.false, omega (arith, rounded_few)) in
     let found : Cut c.args.x c.args.y
     (c.whole_magnitude-a.result.significand * c.whole_magnitude-b.result.significand)
     (c.whole_magnitude-a.result.exponent + c.whole_magnitude-b.result.exponent)

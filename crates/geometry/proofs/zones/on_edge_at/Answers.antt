@@ -22,10 +22,10 @@ returns-then-not-lies_between c =
       accepted_point to (record { x = d (2 * c.args.j); y = d (2 * c.args.j + 1) }) c.requires.accepted.1,
       accepted_point c.args.p (record { x = subst T (sym p.0.1) tt; y = subst T (sym p.1.0.1) tt }) c.requires.accepted.2,
     )) in
-    let y-is : lies_between from.y to.y c.args.p.y ≡ c.lies_between.result = ap₂ (λ (a b : Float). lies_between a b c.args.p.y) (sym c.y_at.ensures) (sym c.y_at-2.ensures)
+    let y_is : lies_between from.y to.y c.args.p.y ≡ c.lies_between.result = ap₂ (λ (a b : Float). lies_between a b c.args.p.y) (sym c.y_at.ensures) (sym c.y_at-2.ensures)
     ∙ sym c.lies_between.ensures in
     let (A, B, P) = held in
-    edge_apart_y _ _ _ A B P ((y-is ∙ c.if-not-lies_between.true))
+    edge_apart_y _ _ _ A B P ((y_is ∙ c.if-not-lies_between.true))
 
 pub returns-then-not-lies_between-2 : goal.returns-then-not-lies_between-2
 returns-then-not-lies_between-2 c =
@@ -37,22 +37,22 @@ returns-then-not-lies_between-2 c =
       accepted_point to (record { x = d (2 * c.args.j); y = d (2 * c.args.j + 1) }) c.requires.accepted.1,
       accepted_point c.args.p (record { x = subst T (sym p.0.1) tt; y = subst T (sym p.1.0.1) tt }) c.requires.accepted.2,
     )) in
-    let x-is : lies_between from.x to.x c.args.p.x ≡ c.lies_between-2.result = ap₂ (λ (a b : Float). lies_between a b c.args.p.x) (sym c.x_at.ensures) (sym c.x_at-2.ensures)
+    let x_is : lies_between from.x to.x c.args.p.x ≡ c.lies_between-2.result = ap₂ (λ (a b : Float). lies_between a b c.args.p.x) (sym c.x_at.ensures) (sym c.x_at-2.ensures)
     ∙ sym c.lies_between-2.ensures in
     let (A, B, P) = held in
-    edge_apart_x _ _ _ A B P ((x-is ∙ c.if-not-lies_between-2.true))
+    edge_apart_x _ _ _ A B P ((x_is ∙ c.if-not-lies_between-2.true))
 
 pub meets-requires : goal.meets-requires
 meets-requires c =
     let from : Point = corner_at c.args.corners.now c.args.k in
     let to : Point = corner_at c.args.corners.now c.args.j in
-    let x-is : lies_between from.x to.x c.args.p.x ≡ c.lies_between-2.result = ap₂ (λ (a b : Float). lies_between a b c.args.p.x) (sym c.x_at.ensures) (sym c.x_at-2.ensures)
+    let x_is : lies_between from.x to.x c.args.p.x ≡ c.lies_between-2.result = ap₂ (λ (a b : Float). lies_between a b c.args.p.x) (sym c.x_at.ensures) (sym c.x_at-2.ensures)
     ∙ sym c.lies_between-2.ensures in
-    let y-is : lies_between from.y to.y c.args.p.y ≡ c.lies_between.result = ap₂ (λ (a b : Float). lies_between a b c.args.p.y) (sym c.y_at.ensures) (sym c.y_at-2.ensures)
+    let y_is : lies_between from.y to.y c.args.p.y ≡ c.lies_between.result = ap₂ (λ (a b : Float). lies_between a b c.args.p.y) (sym c.y_at.ensures) (sym c.y_at-2.ensures)
     ∙ sym c.lies_between.ensures in
     let box : InBox from to c.args.p = record {
-      x = (x-is ∙ c.if-not-lies_between-2.false);
-      y = (y-is ∙ c.if-not-lies_between.false);
+      x = (x_is ∙ c.if-not-lies_between-2.false);
+      y = (y_is ∙ c.if-not-lies_between.false);
     } in
     rw (c.corner_at.ensures, c.corner_at-2.ensures) (c.requires.accepted.0, c.requires.accepted.1, c.requires.accepted.2, box)
 

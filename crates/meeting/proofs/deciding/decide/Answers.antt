@@ -14,17 +14,17 @@ empty r = lt r.most r.least
 pub returns-then-is_empty : goal.returns-then-is_empty
 returns-then-is_empty c =
     let i = c.args in
-    let x-is : c.is_empty.result ≡ empty (common_of i.a.from.x i.a.to.x i.b.from.x i.b.to.x) = c.is_empty.ensures ∙ ap empty c.common-x.ensures in
+    let x_is : c.is_empty.result ≡ empty (common_of i.a.from.x i.a.to.x i.b.from.x i.b.to.x) = c.is_empty.ensures ∙ ap empty c.common-x.ensures in
     let (A, B) = c.requires in
-    boxes_found _ _ A B (sym c.if-is_empty.true ∙ x-is) refl
+    boxes_found _ _ A B (sym c.if-is_empty.true ∙ x_is) refl
 
 pub returns-then-is_empty-2 : goal.returns-then-is_empty-2
 returns-then-is_empty-2 c =
     let i = c.args in
-    let x-is : c.is_empty.result ≡ empty (common_of i.a.from.x i.a.to.x i.b.from.x i.b.to.x) = c.is_empty.ensures ∙ ap empty c.common-x.ensures in
-    let y-is : c.is_empty-2.result ≡ empty (common_of i.a.from.y i.a.to.y i.b.from.y i.b.to.y) = c.is_empty-2.ensures ∙ ap empty c.common-y.ensures in
+    let x_is : c.is_empty.result ≡ empty (common_of i.a.from.x i.a.to.x i.b.from.x i.b.to.x) = c.is_empty.ensures ∙ ap empty c.common-x.ensures in
+    let y_is : c.is_empty-2.result ≡ empty (common_of i.a.from.y i.a.to.y i.b.from.y i.b.to.y) = c.is_empty-2.ensures ∙ ap empty c.common-y.ensures in
     let (A, B) = c.requires in
-    boxes_found _ _ A B (sym c.if-is_empty.false ∙ x-is) (sym c.if-is_empty-2.true ∙ y-is)
+    boxes_found _ _ A B (sym c.if-is_empty.false ∙ x_is) (sym c.if-is_empty-2.true ∙ y_is)
 
 pub in_boxes-requires : goal.in_boxes-requires
 in_boxes-requires c =
@@ -34,7 +34,7 @@ in_boxes-requires c =
 pub returns : goal.returns
 returns c =
     let i = c.args in
-    let x-is : c.is_empty.result ≡ empty (common_of i.a.from.x i.a.to.x i.b.from.x i.b.to.x) = c.is_empty.ensures ∙ ap empty c.common-x.ensures in
-    let y-is : c.is_empty-2.result ≡ empty (common_of i.a.from.y i.a.to.y i.b.from.y i.b.to.y) = c.is_empty-2.ensures ∙ ap empty c.common-y.ensures in
+    let x_is : c.is_empty.result ≡ empty (common_of i.a.from.x i.a.to.x i.b.from.x i.b.to.x) = c.is_empty.ensures ∙ ap empty c.common-x.ensures in
+    let y_is : c.is_empty-2.result ≡ empty (common_of i.a.from.y i.a.to.y i.b.from.y i.b.to.y) = c.is_empty-2.ensures ∙ ap empty c.common-y.ensures in
     let (A, B) = c.requires in
-    c.in_boxes.ensures ∙ boxes_found _ _ A B (sym c.if-is_empty.false ∙ x-is) (sym c.if-is_empty-2.false ∙ y-is)
+    c.in_boxes.ensures ∙ boxes_found _ _ A B (sym c.if-is_empty.false ∙ x_is) (sym c.if-is_empty-2.false ∙ y_is)

@@ -11,8 +11,8 @@ use Rattle.reason.proofs.reasons.placed.Goals as goal
 pub met-requires : goal.met-requires
 unfolding place_said
 met-requires c =
-    let at-border : (border c.in-Border.k ≡ place_in c.args.corners.now c.args.p) = ap place_said (sym c.in-Border.is) ∙ c.requires.2 in
-    (c.requires.0, c.requires.1, edge_number _ _ c.requires.0 c.requires.1 _ at-border)
+    let at_border : (border c.in-Border.k ≡ place_in c.args.corners.now c.args.p) = ap place_said (sym c.in-Border.is) ∙ c.requires.2 in
+    (c.requires.0, c.requires.1, edge_number _ _ c.requires.0 c.requires.1 _ at_border)
 
 pub counted-requires : goal.counted-requires
 unfolding place_said
@@ -27,6 +27,6 @@ counted-requires-in-Outside c =
 pub returns-in-Border : goal.returns-in-Border
 unfolding place_said
 returns-in-Border c =
-    let at-border : (border c.in-Border.k ≡ place_in c.args.corners.now c.args.p) = ap place_said (sym c.in-Border.is) ∙ c.requires.2 in
+    let at_border : (border c.in-Border.k ≡ place_in c.args.corners.now c.args.p) = ap place_said (sym c.in-Border.is) ∙ c.requires.2 in
     subst (λ (m : Met). WhySays c.args.corners.now c.args.p c.args.room.now (Border m) c.args.room.now) (sym c.met.ensures)
-    (met_says _ _ c.requires.0 c.requires.1 _ _ at-border)
+    (met_says _ _ c.requires.0 c.requires.1 _ _ at_border)

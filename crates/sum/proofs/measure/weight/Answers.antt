@@ -24,17 +24,17 @@ share-w-requires c =
 
 pub overflow_add-w : goal.overflow_add-w
 overflow_add-w c =
-    let share-low : c.share-w.result ≤ share_most = (let xs = c.args.list.now in
+    let share_low : c.share-w.result ≤ share_most = (let xs = c.args.list.now in
     let i = c.loop-i.i - 1 in
     let inside : i < length xs = search rules in
     le_trans (le_of_eq c.share-w.ensures)
     (share_most_lem (get_or xs i nan) c.args.grain
     (record { fin = finite_at xs i c.requires.finite inside; fit = c.type_inv.list i }))) in
-    omega (arith, share-low)
+    omega (arith, share_low)
 
 pub loop-i-preserved : goal.loop-i-preserved
 loop-i-preserved c =
-    let share-low : c.share-w.result ≤ share_most = (let xs = c.args.list.now in
+    let share_low : c.share-w.result ≤ share_most = (let xs = c.args.list.now in
     let i = c.loop-i.i - 1 in
     let inside : i < length xs = search rules in
     le_trans (le_of_eq c.share-w.ensures)
@@ -42,7 +42,7 @@ loop-i-preserved c =
     (record { fin = finite_at xs i c.requires.finite inside; fit = c.type_inv.list i }))) in
     let inv = c.loop-i.invariant in
     let step = ap₂ (λ (a b : ℕ). a + b) inv.1 c.share-w.ensures in
-    let low = share-low in
+    let low = share_low in
     (search rules, step ∙ weight_turn _ _ _ _ c.loop-i-test.true inv.0, omega arith)
 
 pub returns : goal.returns

@@ -26,7 +26,7 @@ bounds-list-j c =
 
 pub returns-then-b-a : goal.returns-then-b-a
 returns-then-b-a c =
-    writes_down _ _ c.requires c.if-b-a.true c.exact_sum-s.ensures.x-is c.exact_sum-s.ensures.y-is
+    writes_down _ _ c.requires c.if-b-a.true c.exact_sum-s.ensures.x_is c.exact_sum-s.ensures.y_is
 
 pub exact_sum-s-requires-then-a-b : goal.exact_sum-s-requires-then-a-b
 exact_sum-s-requires-then-a-b c =
@@ -51,7 +51,7 @@ bounds-list-j-then-a-b c =
 pub returns-then-a-b : goal.returns-then-a-b
 returns-then-a-b c =
     writes_up _ _ c.requires c.if-b-a.false c.if-a-b.true
-    c.exact_sum-s-then-a-b.ensures.x-is c.exact_sum-s-then-a-b.ensures.y-is
+    c.exact_sum-s-then-a-b.ensures.x_is c.exact_sum-s-then-a-b.ensures.y_is
 
 pub offset_bounds-list-i-2 : goal.offset_bounds-list-i-2
 offset_bounds-list-i-2 c =

@@ -8,16 +8,16 @@ use Rattle.sum.proofs.words.sign_of.Goals as goal
 
 pub returns-then-words-ge-TOP : goal.returns-then-words-ge-TOP
 returns-then-words-ge-TOP c =
-    let in-range : Below base c.args.words.now = (λ k h. (c.type_inv.words k).fits) in
-    let range = in-range in
+    let in_range : Below base c.args.words.now = (λ k h. (c.type_inv.words k).fits) in
+    let range = in_range in
     record { below = held_below _ c.requires range; sign_is = held_minus _ c.requires range c.if-words-ge-TOP.true }
 
 pub returns-then-words-i-ne0 : goal.returns-then-words-i-ne0
 returns-then-words-i-ne0 c =
-    let in-range : Below base c.args.words.now = (λ k h. (c.shared_slice_known-1.given k).fits) in
+    let in_range : Below base c.args.words.now = (λ k h. (c.shared_slice_known-1.given k).fits) in
     record {
-      below = held_below _ c.requires in-range;
-      sign_is = held_plus _ c.requires in-range c.if-words-ge-TOP.false _ c.loop-i.invariant.1 c.loop-i-test.true c.if-words-i-ne0.true;
+      below = held_below _ c.requires in_range;
+      sign_is = held_plus _ c.requires in_range c.if-words-ge-TOP.false _ c.loop-i.invariant.1 c.loop-i-test.true c.if-words-i-ne0.true;
     }
 
 pub loop-i-preserved : goal.loop-i-preserved
@@ -26,8 +26,8 @@ loop-i-preserved c =
 
 pub returns : goal.returns
 returns c =
-    let in-range : Below base c.args.words.now = (λ k h. (c.type_inv.words k).fits) in
+    let in_range : Below base c.args.words.now = (λ k h. (c.type_inv.words k).fits) in
     record {
-      below = held_below _ c.requires in-range;
-      sign_is = held_zero _ c.requires in-range c.if-words-ge-TOP.false _ c.loop-i.invariant.1 c.loop-i-test.false;
+      below = held_below _ c.requires in_range;
+      sign_is = held_zero _ c.requires in_range c.if-words-ge-TOP.false _ c.loop-i.invariant.1 c.loop-i-test.false;
     }
