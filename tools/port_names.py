@@ -22,7 +22,10 @@ SIGNATURE = re.compile(r"^\s*(?:(?:abbrev|unfoldable|pub|private) )*([^\s(){}.;,
 QUIET = re.compile(r'"(?:[^"\\\n]|\\.)*"|(?:(?<=[\s(){}.;,])|^)--[^\n]*', re.MULTILINE)
 USE = re.compile(r"^(?:pub )?use ([^\s{]+?)\.?\{([^}]*)\}", re.MULTILINE)
 CLAUSE_USE = re.compile(r"ghost\s+use\s+Rattle\.(\w+)\.[^;{]*\{([^}]*)\};")
-TURNS = re.compile(r"^[a-z][^\s]*[a-z0-9'][A-Z]|^[a-zA-Z](?:.*\w)?-\w|^[+*]ℤ-left-")
+TURNS = re.compile(r"^[a-z][^\s]*[a-z0-9'][A-Z]|^[a-zA-Z](?:.*\w)?-\w")
+# Behind an operator's sign a plain word stands with _, as it does in the library; a dash is left where two names are joined.
+SIGNED = {name: name.replace("-", "_") for name in "*ℤ-assoc *ℤ-cross *ℤ-left-comm +ℤ-left-comm <-parts ≡-parts ≤-parts ≈-trans ≤-both ≤-refl".split()}
+SIGNED["negℤ-*ℤ"] = "neg_ℤ-*ℤ"
 LOCAL = re.compile(r"^(?:(?:abbrev|pub) )*([^\s(){}.;,]+) :(?! goal\.)|\blet ([^\s(){}.;,]+) (?=[:=] )", re.MULTILINE)
 SPAN = re.compile(r"`[^`\n]+`")
 OWN = {path.name for path in CRATES.iterdir()}
@@ -37,7 +40,13 @@ def turned(name):
     return plainly(name) + "_lem" if name in MET else plainly(name)
 
 
+def turns(name):
+    return name in SIGNED or bool(TURNS.search(name))
+
+
 def plainly(name):
+    if name in SIGNED:
+        return SIGNED[name]
     words = []
     for part in name.split("-"):
         if part[:1].isupper():
@@ -92,10 +101,10 @@ def table():
         text = path.read_text()
         code, from_kit = quieted(text), lent(text)
         for m in SIGNATURE.finditer(code):
-            if TURNS.search(m[1]) and m[1] not in from_kit:
+            if turns(m[1]) and m[1] not in from_kit:
                 declared.add(m[1])
         for _, word, dotted in words(text):
-            if TURNS.search(word) and not dotted and word not in from_kit:
+            if turns(word) and not dotted and word not in from_kit:
                 bound[path].add(word)
     return declared, bound
 
@@ -103,13 +112,13 @@ def table():
 def locals_of(text):
     """What a proof of a function names for itself, and not after a goal."""
     found = {m[1] or m[2] for m in LOCAL.finditer(quieted(text))}
-    return {name for name in found if TURNS.search(name) and not re.search(rf"^pub {re.escape(name)} : goal", text, re.MULTILINE)}
+    return {name for name in found if turns(name) and not re.search(rf"^pub {re.escape(name)} : goal", text, re.MULTILINE)}
 
 
-def rewritten(text, turns, dotted_turns):
+def rewritten(text, turning, dotted_turning):
     pieces, at = [], 0
     for start, word, dotted in words(text):
-        if word in (dotted_turns if dotted else turns):
+        if word in (dotted_turning if dotted else turning):
             pieces += [text[at:start], turned(word)]
             at = start + len(word)
     return "".join(pieces) + text[at:]
@@ -152,7 +161,7 @@ def edit(path, names):
         head = line[:5]
         if head in ("old: ", "new: ") and target.suffix == ".antt":
             text = line[5:]
-            found = {word for _, word, _ in words(text) if TURNS.search(word)}
+            found = {word for _, word, _ in words(text) if turns(word)}
             text = rewritten(text, found, found)
             text = re.sub(r"Rattle·(\w+)(?:·specs)?\.specs", r"Rattle.\1.specs", text)
             if text.startswith("use "):
@@ -170,17 +179,17 @@ def main():
         text = path.read_text()
         if is_proof(path):
             from_kit = lent(text)
-            turns = {n for n in names | locals_of(text) if n not in from_kit}
+            turning = {n for n in names | locals_of(text) if n not in from_kit}
         else:
-            turns = bound[path]
+            turning = bound[path]
         here = {word for _, word, dotted in words(text) if not dotted}
-        for name in sorted(turns & here):
+        for name in sorted(turning & here):
             if turned(name) in here:
                 faults.append(f"{path.relative_to(ROOT)}: {name} and {turned(name)}")
-        for new, olds in together(turns & here).items():
+        for new, olds in together(turning & here).items():
             if len({turned(old) for old in olds}) < len(olds):
                 faults.append(f"{path.relative_to(ROOT)}: {', '.join(sorted(olds))} would all be {new}")
-        changes[path] = in_comments(rewritten(text, turns, names), names)
+        changes[path] = in_comments(rewritten(text, turning, names), names)
     for path in files("*.rt"):
         changes[path] = clauses(path.read_text(), names)
     for name in sorted(MET):

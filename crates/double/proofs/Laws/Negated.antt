@@ -9,7 +9,7 @@ use native.Mathlib.Omega.{arith}
 use lib.Dec.{ltb, eqb}
 use lib.IntN.{ℤ, neg_ℤ}
 use lib.Ieee.{Float, nan, inf, fin, Format, binary64, prec, low, emax, unlike, odd, units, round, mul, sub, neg}
-use Rattle.whole.proofs.Laws.Parts.{up, dn, up_neg, dn_neg, ≡-parts}
+use Rattle.whole.proofs.Laws.Parts.{up, dn, up_neg, dn_neg, ≡_parts}
 use Rattle.double.specs.Worth.{mag, plus, minus, worth, double_of}
 use Rattle.double.proofs.Laws.Units.{Real, Parts}
 use Rattle.double.proofs.Laws.Worth.{worth_up, worth_dn, double_of_worth_own}
@@ -81,7 +81,7 @@ swapped_worth x z s =
     parted (worth z) (worth x) (worth_up z ∙ s.plus_is ∙ sym (worth_dn x)) (worth_dn z ∙ s.minus_is ∙ sym (worth_up x))
   where
     parted : (w v : ℤ) → up w ≡ dn v → dn w ≡ up v → w ≡ neg_ℤ v
-    parted w v a b = (≡-parts w (neg_ℤ v)).1 (omega (arith, up_neg v, dn_neg v))
+    parted w v a b = (≡_parts w (neg_ℤ v)).1 (omega (arith, up_neg v, dn_neg v))
 
 swapped_sized : {g b : ℕ} (x z : Float) → Swapped x z → Sized g b x → Sized g b z
 swapped_sized {g} x z s r = record {

@@ -11,7 +11,7 @@ use lib.IntN.{ℤ, pos, negsuc, neg_ℤ, nat_abs, ◌+ℤ◌}
 use lib.Ieee.{Float, fin, Format, binary64, prec, low, round, size, units, odd}
 use lib.Ieee.Exact.{HasValue}
 use lib.Ieee.Scale.{overflow}
-use Rattle.whole.proofs.Laws.Parts.{up, dn, add_parts, ≡-parts}
+use Rattle.whole.proofs.Laws.Parts.{up, dn, add_parts, ≡_parts}
 use Rattle.double.specs.Worth.{sign_bit, mag, plus, minus, worth, of_units, double_of}
 use Rattle.double.proofs.Laws.Digits.{Rep}
 use Rattle.double.proofs.Laws.Rounding.{rn, rn_kept}
@@ -69,7 +69,7 @@ worth_nat_abs x = signed_nat_abs (sign_bit x) (mag binary64 x)
 
 -- ---- sums of worths by their parts
 sums : (z w u v : ℤ) → up z + up w + (dn u + dn v) ≡ up u + up v + (dn z + dn w) → z +ℤ w ≡ u +ℤ v
-sums z w u v e = (≡-parts (z +ℤ w) (u +ℤ v)).1 (omega (arith, add_parts z w, add_parts u v))
+sums z w u v e = (≡_parts (z +ℤ w) (u +ℤ v)).1 (omega (arith, add_parts z w, add_parts u v))
 
 pub worth_sums : (a b x y : Float)
     → plus binary64 x + plus binary64 y + (minus binary64 a + minus binary64 b)

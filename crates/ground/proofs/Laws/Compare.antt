@@ -12,7 +12,7 @@ use lib.IntN.{ℤ, pos, negsuc, neg_ℤ}
 use borrow.Author.Tests.{ltb-true, leb-true, leb-false, lt-ltb, le-ltb, le-leb, eqb-true, eq-eqb}
 use Rattle.whole.specs.Order.{◌≤ᶻ◌, ◌<ᶻ◌}
 use Rattle.whole.specs.Sign.{sgn}
-use Rattle.whole.proofs.Laws.Parts.{up, dn, ≤-parts, <-parts, ≡-parts}
+use Rattle.whole.proofs.Laws.Parts.{up, dn, ≤_parts, <_parts, ≡_parts}
 use Rattle.ground.specs.Compare.{at_most, below, equal, is_zero, is_positive, is_negative}
 
 -- ---- what the tests say
@@ -76,13 +76,13 @@ ltb_says m n = (ltb-true m n, lt-ltb m n)
 
 module _ (a b : ℤ) where
   pub at_most_parts : at_most a b ≡ leb (up a + dn b) (up b + dn a)
-  at_most_parts = same_test (at_most a b) (leb (up a + dn b) (up b + dn a)) (simp (at_most_says, ≤-parts, leb_says) Iff.rfl)
+  at_most_parts = same_test (at_most a b) (leb (up a + dn b) (up b + dn a)) (simp (at_most_says, ≤_parts, leb_says) Iff.rfl)
 
   pub below_parts : below a b ≡ ltb (up a + dn b) (up b + dn a)
-  below_parts = same_test (below a b) (ltb (up a + dn b) (up b + dn a)) (simp (below_says, <-parts, ltb_says) Iff.rfl)
+  below_parts = same_test (below a b) (ltb (up a + dn b) (up b + dn a)) (simp (below_says, <_parts, ltb_says) Iff.rfl)
 
   pub equal_parts : equal a b ≡ eqb (up a + dn b) (up b + dn a)
-  equal_parts = same_test (equal a b) (eqb (up a + dn b) (up b + dn a)) (simp (equal_says, ≡-parts, eqb_says) Iff.rfl)
+  equal_parts = same_test (equal a b) (eqb (up a + dn b) (up b + dn a)) (simp (equal_says, ≡_parts, eqb_says) Iff.rfl)
 
 -- ---- signs
 

@@ -5,7 +5,7 @@ use mathlib.Core.Logic.{inl, inr, ⊎_map}
 use Prim.Native.Nat.{ℕ, zero, suc, ◌+◌, ◌%◌}
 use native.Mathlib.Omega.{arith}
 use lib.IntN.{ℤ, pos, negsuc, neg_ℤ, nat_abs, ◌+ℤ◌}
-use Rattle.whole.proofs.Laws.Parts.{up, dn, add_parts, nat_abs_neg, ≤-parts}
+use Rattle.whole.proofs.Laws.Parts.{up, dn, add_parts, nat_abs_neg, ≤_parts}
 use Rattle.ground.specs.Parity.{Odd, Agreed, Small}
 
 pub distance : (z : ℤ) → nat_abs z ≡ up z + dn z
@@ -18,9 +18,9 @@ pub small_agreed : (z : ℤ) → Small z → Agreed z
 unfolding up dn
 small_agreed (pos zero) s = inr refl
 small_agreed (pos (suc zero)) s = inl refl
-small_agreed (pos (suc (suc n))) s = let w : ⊥ = omega (arith, (≤-parts (pos (suc (suc n))) (pos 1)).0 s.1) in absurd w
+small_agreed (pos (suc (suc n))) s = let w : ⊥ = omega (arith, (≤_parts (pos (suc (suc n))) (pos 1)).0 s.1) in absurd w
 small_agreed (negsuc zero) s = inl refl
-small_agreed (negsuc (suc n)) s = let w : ⊥ = omega (arith, (≤-parts (negsuc 0) (negsuc (suc n))).0 s.0) in absurd w
+small_agreed (negsuc (suc n)) s = let w : ⊥ = omega (arith, (≤_parts (negsuc 0) (negsuc (suc n))).0 s.0) in absurd w
 
 -- ---- the negative
 pub agreed_turned : (z : ℤ) → Agreed z → Agreed (neg_ℤ z)

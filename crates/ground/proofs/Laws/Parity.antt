@@ -11,7 +11,7 @@ use native.Mathlib.Omega.{arith}
 use lib.Dec.{eqb}
 use lib.IntN.{pos, negsuc, nat_abs}
 use borrow.Author.Tests.{eqb-true, eqb-false}
-use Rattle.whole.proofs.Laws.Parts.{up, dn, ≤-parts}
+use Rattle.whole.proofs.Laws.Parts.{up, dn, ≤_parts}
 use Rattle.ground.specs.Plane.{Spot}
 use Rattle.ground.specs.Edge.{Edge, edges_of}
 use Rattle.ground.specs.Zone.{Tally, tally_of, total_of, outside, inside, place_number, off_border, place_of}
@@ -79,8 +79,8 @@ small_place es p s = (parity_place es p).1 (inr (small_agreed (total_of (tally_o
 pub few_small : (t : Tally) → t.ups ≤ 1 → t.downs ≤ 1 → Small (total_of t)
 unfolding up dn
 few_small t u d = (
-  (≤-parts (negsuc 0) (total_of t)).1 (omega (arith, total_parts t)),
-  (≤-parts (total_of t) (pos 1)).1 (omega (arith, total_parts t)),
+  (≤_parts (negsuc 0) (total_of t)).1 (omega (arith, total_parts t)),
+  (≤_parts (total_of t) (pos 1)).1 (omega (arith, total_parts t)),
 )
 
 -- ---- triangles, in any listing, and with corners on one line too

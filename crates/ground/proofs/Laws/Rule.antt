@@ -9,7 +9,7 @@ use mathlib.Core.Logic.{◌⊎◌, inl, inr, ◌↔◌}
 use Prim.Native.Nat.{ℕ, zero, suc, ◌+◌}
 use native.Mathlib.Omega.{arith}
 use lib.IntN.{ℤ, pos, negsuc, neg_ℤ, nat_abs, ◌+ℤ◌, ◌-ℤ◌}
-use Rattle.whole.proofs.Laws.Parts.{up, dn, difference_parts, ≡-parts}
+use Rattle.whole.proofs.Laws.Parts.{up, dn, difference_parts, ≡_parts}
 use Rattle.whole.proofs.Laws.Linear.{ints, int_rules}
 use Rattle.ground.specs.Compare.{is_zero}
 use Rattle.ground.specs.Zone.{Tally, total_of, outside, border, inside, place_number, off_border}
@@ -44,7 +44,7 @@ pub total_zero : (t : Tally) → (total_of t ≡ pos 0) ↔ (t.ups ≡ t.downs)
 unfolding up dn
 total_zero t = (
   λ e. omega (arith, total_parts t, ap up e, ap dn e),
-  λ e. (≡-parts (total_of t) (pos 0)).1 (omega (arith, total_parts t)),
+  λ e. (≡_parts (total_of t) (pos 0)).1 (omega (arith, total_parts t)),
 )
 
 -- ---- the place

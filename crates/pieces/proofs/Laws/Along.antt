@@ -18,7 +18,7 @@ use Rattle.pieces.specs.Meeting.{LiesOn}
 use Rattle.pieces.specs.Parts.{lesser, greater}
 use Rattle.pieces.proofs.Laws.Places.{on_from, on_turned}
 use Rattle.pieces.proofs.Laws.Words.{flipped, flipped_edge, on_flipped}
-use Rattle.pieces.proofs.Laws.Ranges.{less-≤, ≤-refl, ≤-both, gap_nonneg, gap_positive}
+use Rattle.pieces.proofs.Laws.Ranges.{less-≤, ≤_refl, ≤_both, gap_nonneg, gap_positive}
 use Rattle.pieces.proofs.Laws.Ranges.{lesser_is, greater_is, lesser_other, greater_other}
 
 -- ---- sides
@@ -98,8 +98,8 @@ point_on a p side i j = go (compared a.from.x a.to.x) (compared a.from.y a.to.y)
 
     pinned : (b c v : ℤ) → b ≡ c → InRange b c v → b ≡ v
     pinned b c v e k =
-        let le = subst (λ (z : ℤ). b ≤ᶻ z) e (≤-refl b) in
-        ≤-both b v (subst (λ (z : ℤ). z ≤ᶻ v) (lesser_is b c le) k.least)
+        let le = subst (λ (z : ℤ). b ≤ᶻ z) e (≤_refl b) in
+        ≤_both b v (subst (λ (z : ℤ). z ≤ᶻ v) (lesser_is b c le) k.least)
         (subst (λ (z : ℤ). v ≤ᶻ z) (greater_is b c le ∙ sym e) k.most)
 
     go : Compared a.from.x a.to.x → Compared a.from.y a.to.y → LiesOn a (at p)

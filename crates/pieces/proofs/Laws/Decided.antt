@@ -21,7 +21,7 @@ use Rattle.pieces.specs.Parts.{Range, common_x, common_y, is_empty, is_long, is_
 use Rattle.pieces.specs.Parts.{Sides, sides_of}
 use Rattle.pieces.proofs.Laws.Places.{same_refl, same_sym, on_same, on_from, on_dot, on_side_lem}
 use Rattle.pieces.proofs.Laws.Words.{flipped_edge, one_word, holds_exchanged, holds_flipped}
-use Rattle.pieces.proofs.Laws.Ranges.{≤-refl, ≤_trans, less_not, lesser_is, greater_is, lesser_first, lesser_second}
+use Rattle.pieces.proofs.Laws.Ranges.{≤_refl, ≤_trans, less_not, lesser_is, greater_is, lesser_first, lesser_second}
 use Rattle.pieces.proofs.Laws.Ranges.{greater_first, greater_second, common_exchanged, empty_x, empty_y}
 use Rattle.pieces.proofs.Laws.Along.{InRange, Uneven, side_flipped, spot_is, point_on}
 use Rattle.pieces.proofs.Laws.Lines.{Lined, line_x}
@@ -60,7 +60,7 @@ dot_side a p e = subst (λ (q : Spot). side_of_edge (record { from = a.from; to 
 -- in what the boxes have in common it is in the other's box
 dot_in : (a b : Edge) → b.from.x ≡ b.to.x → (common_x a b).least ≤ᶻ (common_x a b).most → InRange a.from.x a.to.x b.from.x
 dot_in a b e le =
-    let same : b.from.x ≤ᶻ b.to.x = subst (λ (z : ℤ). b.from.x ≤ᶻ z) e (≤-refl b.from.x) in
+    let same : b.from.x ≤ᶻ b.to.x = subst (λ (z : ℤ). b.from.x ≤ᶻ z) e (≤_refl b.from.x) in
     let low = lesser_is b.from.x b.to.x same in
     let high = greater_is b.from.x b.to.x same ∙ sym e in
     record {
@@ -114,7 +114,7 @@ module _ (a b : Edge) (x_common : (common_x a b).least ≤ᶻ (common_x a b).mos
       go (less h) = inl h
       go (more h) = inr h
       go (equal e) =
-          let same : c.from.x ≤ᶻ c.to.x = subst (λ (z : ℤ). c.from.x ≤ᶻ z) e (≤-refl c.from.x) in
+          let same : c.from.x ≤ᶻ c.to.x = subst (λ (z : ℤ). c.from.x ≤ᶻ z) e (≤_refl c.from.x) in
           absurd (less_not (common_x c d).least (common_x c d).most l
           (≤_trans (common_x c d).most c.from.x (common_x c d).least
           (subst (λ (z : ℤ). (common_x c d).most ≤ᶻ z) (greater_is c.from.x c.to.x same ∙ sym e) (lesser_first _ _))

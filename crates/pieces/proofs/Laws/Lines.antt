@@ -17,7 +17,7 @@ use Rattle.pieces.specs.Meeting.{Way, LiesOn, Shared, IsEnd, Holds, touching, ov
 use Rattle.pieces.specs.Parts.{Range, range, lesser, greater, common_x}
 use Rattle.pieces.proofs.Laws.Places.{times, same_refl, same_x, same_share, on_from}
 use Rattle.pieces.proofs.Laws.Words.{holds_turned, holds_second_turned}
-use Rattle.pieces.proofs.Laws.Ranges.{less-≤, ≤-refl, ≤_trans, ≤-both, less_not, gap_positive}
+use Rattle.pieces.proofs.Laws.Ranges.{less-≤, ≤_refl, ≤_trans, ≤_both, less_not, gap_positive}
 use Rattle.pieces.proofs.Laws.Ranges.{of_lesser, of_greater, lesser_first, lesser_second, greater_first, greater_second}
 use Rattle.pieces.proofs.Laws.Ranges.{lesser_is, greater_is, common_turned, common_second_turned}
 use Rattle.pieces.proofs.Laws.Ranges.{shared_least, shared_most}
@@ -63,7 +63,7 @@ module _ (a b : Edge) (h : a.from.x <ᶻ a.to.x) (k : b.from.x ≤ᶻ b.to.x)
   on_second e w l m = elim (<-or-≤ b.from.x b.to.x) [
     | inl i ↦ along b e (other_side e w) i l m
     | inr i ↦
-        let same : b.from.x ≡ e.x = ≤-both b.from.x e.x l (≤_trans e.x b.to.x b.from.x m i) in
+        let same : b.from.x ≡ e.x = ≤_both b.from.x e.x l (≤_trans e.x b.to.x b.from.x m i) in
         subst (λ (q : Spot). LiesOn b (at q)) (one_point b.from e u w same) (on_from b)
   ]
 
@@ -161,7 +161,7 @@ module _ (a b : Edge) (h : a.from.x <ᶻ a.to.x) (k : b.from.x ≤ᶻ b.to.x)
           at q.e,
           p.shared,
           q.shared,
-          λ z. less_not first_x last_x l (subst (λ (w : ℤ). w ≤ᶻ first_x) (sym p.at_x ∙ same_x p.e q.e z ∙ q.at_x) (≤-refl first_x)),
+          λ z. less_not first_x last_x l (subst (λ (w : ℤ). w ≤ᶻ first_x) (sym p.at_x ∙ same_x p.e q.e z ∙ q.at_x) (≤_refl first_x)),
         )
 
     ordered_short : last_x ≤ᶻ first_x → Holds touching a b
@@ -175,7 +175,7 @@ module _ (a b : Edge) (h : a.from.x <ᶻ a.to.x) (k : b.from.x ≤ᶻ b.to.x)
             (way_equal a.from.x a.to.x i.first.t p.shared.first.t r.x (at p.e).x h i.first.x p.shared.first.x
             (pin r.x.top r.x.bottom p.e.x first_x last_x
             (subst (λ (z : Range). z.least *ℤ r.x.bottom ≤ᶻ r.x.top) common_is (shared_least a b r i))
-            (subst (λ (z : Range). r.x.top ≤ᶻ z.most *ℤ r.x.bottom) common_is (shared_most a b r i)) (≤-both first_x last_x le l) p.at_x))
+            (subst (λ (z : Range). r.x.top ≤ᶻ z.most *ℤ r.x.bottom) common_is (shared_most a b r i)) (≤_both first_x last_x le l) p.at_x))
           where
             pin : (f g e l m : ℤ) → l *ℤ g ≤ᶻ f → f ≤ᶻ m *ℤ g → l ≡ m → e ≡ l → f *ℤ pos 1 ≡ e *ℤ g
             pin f g e l m s t q z = go f g l s (subst (λ (w : ℤ). f ≤ᶻ w *ℤ g) (sym q) t) ∙ ap (λ (w : ℤ). w *ℤ g) (sym z)

@@ -20,8 +20,8 @@ pub times : (c : ℤ) {a b : ℤ} → a ≡ b → c *ℤ a ≡ c *ℤ b
 times c e = ap (λ (z : ℤ). c *ℤ z) e
 
 -- ---- one place
-≈-trans : (f g h : Fraction) → f ≈ g → g ≈ h → f ≈ h
-≈-trans f g h p q =
+≈_trans : (f g h : Fraction) → f ≈ g → g ≈ h → f ≈ h
+≈_trans f g h p q =
     cancel-≡ g.bottom (f.top *ℤ h.bottom) (h.top *ℤ f.bottom) g.positive
     (go f.top f.bottom g.top g.bottom h.top h.bottom (times h.bottom p) (times f.bottom q))
   where
@@ -29,7 +29,7 @@ times c e = ap (λ (z : ℤ). c *ℤ z) e
     go a b c d e f = ints (a ∷ b ∷ c ∷ d ∷ e ∷ f ∷ []) (λ ρ v n m. simp (int_rules, v 0, v 1, v 2, v 3, v 4, v 5) (omega arith))
 
 pub same_trans : (r s t : Place) → Same r s → Same s t → Same r t
-same_trans r s t p q = record { x = ≈-trans r.x s.x t.x p.x q.x; y = ≈-trans r.y s.y t.y p.y q.y }
+same_trans r s t p q = record { x = ≈_trans r.x s.x t.x p.x q.x; y = ≈_trans r.y s.y t.y p.y q.y }
 
 pub same_sym : (r s : Place) → Same r s → Same s r
 same_sym r s p = record { x = sym p.x; y = sym p.y }

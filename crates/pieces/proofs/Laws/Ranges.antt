@@ -24,14 +24,14 @@ use Rattle.pieces.proofs.Laws.Words.{flipped_edge, holds_flipped}
 pub less-≤ : (a b : ℤ) → a <ᶻ b → a ≤ᶻ b
 less-≤ a b = ints (a ∷ b ∷ []) (λ ρ v n m. simp (int_rules, v 0, v 1) (omega arith))
 
-pub ≤-refl : (a : ℤ) → a ≤ᶻ a
-≤-refl a = ints (a ∷ []) (λ ρ v n m. simp (int_rules, v 0) (omega arith))
+pub ≤_refl : (a : ℤ) → a ≤ᶻ a
+≤_refl a = ints (a ∷ []) (λ ρ v n m. simp (int_rules, v 0) (omega arith))
 
 pub ≤_trans : (a b c : ℤ) → a ≤ᶻ b → b ≤ᶻ c → a ≤ᶻ c
 ≤_trans a b c = ints (a ∷ b ∷ c ∷ []) (λ ρ v n m. simp (int_rules, v 0, v 1, v 2) (omega arith))
 
-pub ≤-both : (a b : ℤ) → a ≤ᶻ b → b ≤ᶻ a → a ≡ b
-≤-both a b = ints (a ∷ b ∷ []) (λ ρ v n m. simp (int_rules, v 0, v 1) (omega arith))
+pub ≤_both : (a b : ℤ) → a ≤ᶻ b → b ≤ᶻ a → a ≡ b
+≤_both a b = ints (a ∷ b ∷ []) (λ ρ v n m. simp (int_rules, v 0, v 1) (omega arith))
 
 pub less_not : (a b : ℤ) → a <ᶻ b → b ≤ᶻ a → ⊥
 less_not a b = ints (a ∷ b ∷ []) (λ ρ v n m. simp (int_rules, v 0, v 1) (omega arith))
@@ -62,28 +62,28 @@ module _ (a b : ℤ) where
   of_greater P h k = chosen P a b b a (λ l. k (less-≤ a b l)) (λ l. h l)
 
   pub lesser_first : lesser a b ≤ᶻ a
-  lesser_first = of_lesser (λ (z : ℤ). z ≤ᶻ a) (λ l. ≤-refl a) (λ l. l)
+  lesser_first = of_lesser (λ (z : ℤ). z ≤ᶻ a) (λ l. ≤_refl a) (λ l. l)
 
   pub lesser_second : lesser a b ≤ᶻ b
-  lesser_second = of_lesser (λ (z : ℤ). z ≤ᶻ b) (λ l. l) (λ l. ≤-refl b)
+  lesser_second = of_lesser (λ (z : ℤ). z ≤ᶻ b) (λ l. l) (λ l. ≤_refl b)
 
   pub greater_first : a ≤ᶻ greater a b
-  greater_first = of_greater (λ (z : ℤ). a ≤ᶻ z) (λ l. ≤-refl a) (λ l. l)
+  greater_first = of_greater (λ (z : ℤ). a ≤ᶻ z) (λ l. ≤_refl a) (λ l. l)
 
   pub greater_second : b ≤ᶻ greater a b
-  greater_second = of_greater (λ (z : ℤ). b ≤ᶻ z) (λ l. l) (λ l. ≤-refl b)
+  greater_second = of_greater (λ (z : ℤ). b ≤ᶻ z) (λ l. l) (λ l. ≤_refl b)
 
   pub lesser_is : a ≤ᶻ b → lesser a b ≡ a
-  lesser_is h = of_lesser (λ (z : ℤ). z ≡ a) (λ l. refl) (λ l. ≤-both b a l h)
+  lesser_is h = of_lesser (λ (z : ℤ). z ≡ a) (λ l. refl) (λ l. ≤_both b a l h)
 
   pub greater_is : a ≤ᶻ b → greater a b ≡ b
-  greater_is h = of_greater (λ (z : ℤ). z ≡ b) (λ l. ≤-both a b h l) (λ l. refl)
+  greater_is h = of_greater (λ (z : ℤ). z ≡ b) (λ l. ≤_both a b h l) (λ l. refl)
 
   pub lesser_other : b ≤ᶻ a → lesser a b ≡ b
-  lesser_other h = of_lesser (λ (z : ℤ). z ≡ b) (λ l. ≤-both a b l h) (λ l. refl)
+  lesser_other h = of_lesser (λ (z : ℤ). z ≡ b) (λ l. ≤_both a b l h) (λ l. refl)
 
   pub greater_other : b ≤ᶻ a → greater a b ≡ a
-  greater_other h = of_greater (λ (z : ℤ). z ≡ a) (λ l. refl) (λ l. ≤-both b a h l)
+  greater_other h = of_greater (λ (z : ℤ). z ≡ a) (λ l. refl) (λ l. ≤_both b a h l)
 
 -- ---- the same two in another order
 lesser_comm : (a b : ℤ) → lesser b a ≡ lesser a b

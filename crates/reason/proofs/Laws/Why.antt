@@ -27,7 +27,7 @@ use Rattle.word64.proofs.Laws.Signed.{again}
 use Rattle.word64.proofs.Laws.Difference.{difference_of_last_words}
 use mir.Syntax.{w64}
 use mir.ValLaws.{to_z-of_z}
-use Rattle.whole.proofs.Laws.Parts.{up, dn, ≤-parts, <-parts}
+use Rattle.whole.proofs.Laws.Parts.{up, dn, ≤_parts, <_parts}
 use Rattle.geometry.specs.Zone.{most, corners_of, edge_at, place_in, place_said, zone_said, zone_of}
 use Rattle.geometry.specs.declared.answer.Place.TheVariants.{Border as PlaceBorder}
 use Rattle.geometry.specs.declared.answer.Zone.TheVariants.{Refused as ZoneRefused}
@@ -44,8 +44,8 @@ use Rattle.reason.specs.declared.answer.Why.TheVariants.{Border, Inside, Outside
 -- ---- a total as it is read again: it fits
 pub total_again : (a b : ℕ) (d : ℤ) → SignedDifferenceSays a b d → again d ≡ d
 unfolding up dn
-total_again a b (pos n) says = to_z-of_z w64 (pos n) (record { sfits = omega (arith, (<-parts (pos n) _).0 says.most) })
-total_again a b (negsuc n) says = to_z-of_z w64 (negsuc n) (record { sfits = omega (arith, (≤-parts _ (negsuc n)).0 says.least) })
+total_again a b (pos n) says = to_z-of_z w64 (pos n) (record { sfits = omega (arith, (<_parts (pos n) _).0 says.most) })
+total_again a b (negsuc n) says = to_z-of_z w64 (negsuc n) (record { sfits = omega (arith, (≤_parts _ (negsuc n)).0 says.least) })
 
 -- inside or outside
 abbrev pub why_by : Bool → Counted → Why

@@ -7,7 +7,7 @@ use native.Mathlib.Omega.{arith}
 use lib.IntN.{ℤ, pos, ◌+ℤ◌, ◌-ℤ◌, ◌*ℤ◌, neg_ℤ}
 use lib.Ieee.{Float, binary64}
 use Rattle.whole.specs.Order.{◌≤ᶻ◌, ◌<ᶻ◌}
-use Rattle.whole.proofs.Laws.Parts.{up, dn, add_parts, mul_parts, up_neg, dn_neg, ≡-parts, ≤-parts, <-parts}
+use Rattle.whole.proofs.Laws.Parts.{up, dn, add_parts, mul_parts, up_neg, dn_neg, ≡_parts, ≤_parts, <_parts}
 use Rattle.double.specs.Worth.{mag, plus, minus, worth}
 use Rattle.double.proofs.Laws.Signed.{part_both}
 use Rattle.double.proofs.Laws.Worth.{worth_up, worth_dn}
@@ -47,16 +47,16 @@ by_scale h k = record { eq = omega (arith, (by_mul h k).eq) }
 
 -- ---- the order
 pub by-≤ : {z w : ℤ} {p n q m : ℕ} → By z p n → By w q m → p + m ≤ q + n → z ≤ᶻ w
-by-≤ {z} {w} h k l = (≤-parts z w).1 (omega (arith, h.eq, k.eq))
+by-≤ {z} {w} h k l = (≤_parts z w).1 (omega (arith, h.eq, k.eq))
 
 pub by_positive : {z : ℤ} {p n : ℕ} → By z p n → n < p → pos 0 <ᶻ z
 unfolding up dn
-by_positive {z} h l = (<-parts (pos 0) z).1 (omega (arith, h.eq))
+by_positive {z} h l = (<_parts (pos 0) z).1 (omega (arith, h.eq))
 
 pub by_negative : {z : ℤ} {p n : ℕ} → By z p n → p < n → z <ᶻ pos 0
 unfolding up dn
-by_negative {z} h l = (<-parts z (pos 0)).1 (omega (arith, h.eq))
+by_negative {z} h l = (<_parts z (pos 0)).1 (omega (arith, h.eq))
 
 pub by_zero : {z : ℤ} {p n : ℕ} → By z p n → p ≡ n → z ≡ pos 0
 unfolding up dn
-by_zero {z} h l = (≡-parts z (pos 0)).1 (omega (arith, h.eq))
+by_zero {z} h l = (≡_parts z (pos 0)).1 (omega (arith, h.eq))

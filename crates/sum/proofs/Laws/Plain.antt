@@ -16,7 +16,7 @@ use lib.Seq.{drop-cons}
 use lib.Ieee.{Float, nan, binary64}
 use borrow.Author.Tests.{le-leb, lt-leb, eq-eqb, ne_eqb}
 use Rattle.whole.specs.Sign.{sgn}
-use Rattle.whole.proofs.Laws.Parts.{up, dn, up_neg, dn_neg, add_parts, ≡-parts}
+use Rattle.whole.proofs.Laws.Parts.{up, dn, up_neg, dn_neg, add_parts, ≡_parts}
 use Rattle.whole.proofs.Laws.Sign.{sgn_nat_positive, sgn_nat_zero, sgn_nat_negative}
 use Rattle.refusal.specs.Outcome.{Fixes}
 use Rattle.refusal.proofs.Laws.Outcome.{refuses_once}
@@ -164,7 +164,7 @@ module _ (v x y : ℕ) (b : v < modulus) (h : x < half) (g : y < half) where
 difference_is : (t : ℤ) (x y : ℕ) → up t + y ≡ dn t + x → t ≡ pos x -ℤ pos y
 unfolding up dn
 difference_is t x y e =
-    (≡-parts t (pos x -ℤ pos y)).1 (omega (arith, add_parts (pos x) (neg_ℤ (pos y)), up_neg (pos y), dn_neg (pos y)))
+    (≡_parts t (pos x -ℤ pos y)).1 (omega (arith, add_parts (pos x) (neg_ℤ (pos y)), up_neg (pos y), dn_neg (pos y)))
 
 -- of at most 1,024 entries no total reaches half the modulus
 limit_below : limit * most < half

@@ -12,7 +12,7 @@ use lib.IntN.{ℤ, pos, neg_ℤ, ◌-ℤ◌}
 use lib.ListN.{length}
 use lib.Ieee.{Float, binary64, prec, neg}
 use Rattle.whole.specs.Sign.{sgn}
-use Rattle.whole.proofs.Laws.Parts.{up, dn, add_parts, up_neg, dn_neg, ≡-parts}
+use Rattle.whole.proofs.Laws.Parts.{up, dn, add_parts, up_neg, dn_neg, ≡_parts}
 use Rattle.whole.proofs.Laws.Sign.{sgn_nat_positive, sgn_nat_zero, sgn_nat_negative}
 use Rattle.double.specs.Worth.{worth, plus0}
 use Rattle.double.proofs.Laws.Worth.{worth_up, worth_dn}
@@ -49,7 +49,7 @@ total_parts (x ∷ xs) = omega (arith, total_parts xs, add_parts (worth x) (tota
 
 difference : (z : ℤ) (P M : ℕ) → up z + M ≡ dn z + P → z ≡ pos P -ℤ pos M
 unfolding up dn
-difference z P M e = (≡-parts z (pos P -ℤ pos M)).1 (omega (arith, add_parts (pos P) (neg_ℤ (pos M)), up_neg (pos M), dn_neg (pos M)))
+difference z P M e = (≡_parts z (pos P -ℤ pos M)).1 (omega (arith, add_parts (pos P) (neg_ℤ (pos M)), up_neg (pos M), dn_neg (pos M)))
 
 pub total_sides : (xs : List Float) → total_of xs ≡ pos (sum_of (far false) xs) -ℤ pos (sum_of (far true) xs)
 total_sides xs = difference (total_of xs) (sum_of (far false) xs) (sum_of (far true) xs) (total_parts xs)

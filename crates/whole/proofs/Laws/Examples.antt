@@ -42,7 +42,7 @@ module _ (px py qx qy rx ry : ℤ) where
   swap_turn : sgn (det qx qy px py rx ry) ≡ neg_ℤ (sgn (det px py qx qy rx ry))
   swap_turn = ap sgn swap_pq_lem ∙ sgn_neg (det px py qx qy rx ry)
 
-  -- in signs, which `sgn-rules` turns into orders
+  -- in signs, which `sgn_rules` turns into orders
   swap_sign : sgn (det px py qx qy rx ry) ≡ pos 1 → sgn (det qx qy px py rx ry) ≡ negsuc 0
   swap_sign = simp sgn_rules swap_left
 

@@ -1,15 +1,15 @@
 -- Identities and inequalities of whole numbers in one line. What `+ℤ`, `-ℤ`, `neg_ℤ`, `*ℤ`, numerals, `≡`, `≤ᶻ`, `<ᶻ`, `→` and `↔` say of
 -- unknowns x and y is proved, if it is linear in its monomials once multiplied out, by
 --
---     ints (x ∷ y ∷ []) (λ ρ v n m. simp (int-rules, n, v 0, v 1) (omega arith))
+--     ints (x ∷ y ∷ []) (λ ρ v n m. simp (int_rules, n, v 0, v 1) (omega arith))
 --
 -- `v i` reads the i-th unknown, `n` a numeral `pos k`, `m` a numeral `negsuc k`; where one is left out, `omega` is "stuck on `val`". `simp`
 -- makes expressions of `Ring` from these and normal forms from those: `omega` gets a statement of ℕ in which each monomial is an unknown.
---   A hypothesis h that is in scope already goes into omega's list, as `simp (int-rules, v 0, …) at h`.
+--   A hypothesis h that is in scope already goes into omega's list, as `simp (int_rules, v 0, …) at h`.
 --   A product of two hypotheses is not found: `mul_positive` and `mul_nonneg` of `Order` make it one more hypothesis.
 --   `pos k`, with k a variable, computes under `+ℤ` and `*ℤ`, so is no unknown: prove the law of any x, then put `pos k` in.
 --
--- In order: the value of an expression; the two parts of a normal form; the order and equality of values; `int-rules`; `ints`.
+-- In order: the value of an expression; the two parts of a normal form; the order and equality of values; `int_rules`; `ints`.
 -- Not here: large identities, which `solve` of `Ring` proves faster; uses (`Examples`).
 -- Assumes nothing.
 use mathlib.Core.Path.{◌≡◌, refl, ap}
@@ -21,7 +21,7 @@ use Prim.Native.Nat.{ℕ, suc, ◌+◌, ◌*◌, ◌≤◌, ◌<◌}
 use native.Mathlib.Omega.{arith}
 use lib.IntN.{ℤ, pos, negsuc, neg_ℤ, ◌+ℤ◌, ◌*ℤ◌}
 use Rattle.whole.specs.Order.{◌≤ᶻ◌, ◌<ᶻ◌}
-use Rattle.whole.proofs.Laws.Parts.{up, dn, add_parts, mul_parts, up_neg, dn_neg, ≤-parts, <-parts, ≡-parts}
+use Rattle.whole.proofs.Laws.Parts.{up, dn, add_parts, mul_parts, up_neg, dn_neg, ≤_parts, <_parts, ≡_parts}
 use Rattle.whole.proofs.Laws.Ring.{Expr, var, num, neg, opp, ◌:+◌, ◌:-◌, ◌:*◌, nth, den, norm}
 use Rattle.whole.proofs.Laws.Ring.{mono, Sum, none, more, total, norm_sound}
 
@@ -95,15 +95,15 @@ module _ (ρ : List ℤ) where
 
 pub val-≤ : (a b : Expr) (ρ : List ℤ) → (val a ρ ≤ᶻ val b ρ) ↔ (part false (norm (b :- a)) ρ ≤ part true (norm (b :- a)) ρ)
 unfolding val
-val-≤ a b ρ = Iff.trans (≤-parts (den a ρ) (den b ρ)) (omega (arith, sub_parts ρ a b))
+val-≤ a b ρ = Iff.trans (≤_parts (den a ρ) (den b ρ)) (omega (arith, sub_parts ρ a b))
 
 pub val-< : (a b : Expr) (ρ : List ℤ) → (val a ρ <ᶻ val b ρ) ↔ (part false (norm (b :- a)) ρ < part true (norm (b :- a)) ρ)
 unfolding val
-val-< a b ρ = Iff.trans (<-parts (den a ρ) (den b ρ)) (omega (arith, sub_parts ρ a b))
+val-< a b ρ = Iff.trans (<_parts (den a ρ) (den b ρ)) (omega (arith, sub_parts ρ a b))
 
 pub val-≡ : (a b : Expr) (ρ : List ℤ) → (val a ρ ≡ val b ρ) ↔ (part false (norm (b :- a)) ρ ≡ part true (norm (b :- a)) ρ)
 unfolding val
-val-≡ a b ρ = Iff.trans (≡-parts (den a ρ) (den b ρ)) (omega (arith, sub_parts ρ a b))
+val-≡ a b ρ = Iff.trans (≡_parts (den a ρ) (den b ρ)) (omega (arith, sub_parts ρ a b))
 
 pub ruleset int_rules = (val_add, val_mul, val_neg, val-≤, val-<, val-≡)
 

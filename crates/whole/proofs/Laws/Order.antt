@@ -13,7 +13,7 @@ use native.Mathlib.Decide.{dec_lt}
 use native.Mathlib.Omega.{arith}
 use lib.IntN.{ℤ, pos, negsuc, ◌-ℤ◌, ◌*ℤ◌}
 use Rattle.whole.specs.Order.{◌≤ᶻ◌, ◌<ᶻ◌}
-use Rattle.whole.proofs.Laws.Parts.{up, dn, ≤-parts, <-parts, pos-≤}
+use Rattle.whole.proofs.Laws.Parts.{up, dn, ≤_parts, <_parts, pos-≤}
 use Rattle.whole.proofs.Laws.Linear.{ints, int_rules}
 use Rattle.whole.proofs.Laws.Sign.{sgn_positive, sgn_scale, sgn_zero, sgn_sub_zero}
 
@@ -23,8 +23,8 @@ pub <-or-≤ : (a b : ℤ) → (a <ᶻ b) ⊎ (b ≤ᶻ a)
 <-or-≤ a b = split (dec_lt (up a + dn b) (up b + dn a))
   where
     split : Dec (up a + dn b < up b + dn a) → (a <ᶻ b) ⊎ (b ≤ᶻ a)
-    split (yes h) = inl ((<-parts a b).1 h)
-    split (no h) = inr ((≤-parts b a).1 (omega arith))
+    split (yes h) = inl ((<_parts a b).1 h)
+    split (no h) = inr ((≤_parts b a).1 (omega arith))
 
 -- of naturals too
 pub lt_or_le : (m n : ℕ) → (m < n) ⊎ (n ≤ m)

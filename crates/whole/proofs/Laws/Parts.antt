@@ -74,19 +74,19 @@ mul_parts (negsuc m) (negsuc n) = omega arith
 
 -- ---- the order and equality
 
-pub ≤-parts : (a b : ℤ) → (a ≤ᶻ b) ↔ (up a + dn b ≤ up b + dn a)
+pub ≤_parts : (a b : ℤ) → (a ≤ᶻ b) ↔ (up a + dn b ≤ up b + dn a)
 unfolding up dn
-≤-parts (pos m) (pos n) = omega (arith, leb→le, le→leb)
-≤-parts (pos m) (negsuc n) = omega arith
-≤-parts (negsuc m) (pos n) = omega arith
-≤-parts (negsuc m) (negsuc n) = omega (arith, leb→le, le→leb)
+≤_parts (pos m) (pos n) = omega (arith, leb→le, le→leb)
+≤_parts (pos m) (negsuc n) = omega arith
+≤_parts (negsuc m) (pos n) = omega arith
+≤_parts (negsuc m) (negsuc n) = omega (arith, leb→le, le→leb)
 
-pub <-parts : (a b : ℤ) → (a <ᶻ b) ↔ (up a + dn b < up b + dn a)
+pub <_parts : (a b : ℤ) → (a <ᶻ b) ↔ (up a + dn b < up b + dn a)
 unfolding up dn
-<-parts (pos m) (pos n) = omega (arith, ltb→lt, lt→ltb)
-<-parts (pos m) (negsuc n) = omega arith
-<-parts (negsuc m) (pos n) = omega arith
-<-parts (negsuc m) (negsuc n) = omega (arith, ltb→lt, lt→ltb)
+<_parts (pos m) (pos n) = omega (arith, ltb→lt, lt→ltb)
+<_parts (pos m) (negsuc n) = omega arith
+<_parts (negsuc m) (pos n) = omega arith
+<_parts (negsuc m) (negsuc n) = omega (arith, ltb→lt, lt→ltb)
 
 from_parts : (a b : ℤ) → up a + dn b ≡ up b + dn a → a ≡ b
 unfolding up dn
@@ -95,8 +95,8 @@ from_parts (pos m) (negsuc n) e = let z : ⊥ = omega arith in absurd z
 from_parts (negsuc m) (pos n) e = let z : ⊥ = omega arith in absurd z
 from_parts (negsuc m) (negsuc n) e = let k : m ≡ n = omega arith in ap negsuc k
 
-pub ≡-parts : (a b : ℤ) → (a ≡ b) ↔ (up a + dn b ≡ up b + dn a)
-≡-parts a b = ((λ e. omega (arith, ap up e, ap dn e)), from_parts a b)
+pub ≡_parts : (a b : ℤ) → (a ≡ b) ↔ (up a + dn b ≡ up b + dn a)
+≡_parts a b = ((λ e. omega (arith, ap up e, ap dn e)), from_parts a b)
 
 -- of naturals they are those of ℕ
 pub pos-≤ : (a b : ℕ) → (pos a ≤ᶻ pos b) ↔ (a ≤ b)
@@ -115,13 +115,13 @@ pos-≡ a b = ((λ e. ap up e), (λ e. ap pos e))
 times : (z : ℤ) {m n : ℕ} → m ≡ n → (m * up z ≡ n * up z) × (m * dn z ≡ n * dn z)
 times z e = (ap (λ (s : ℕ). s * up z) e, ap (λ (s : ℕ). s * dn z) e)
 
-pub *ℤ-assoc : (a b c : ℤ) → (a *ℤ b) *ℤ c ≡ a *ℤ (b *ℤ c)
-*ℤ-assoc a b c =
+pub *ℤ_assoc : (a b c : ℤ) → (a *ℤ b) *ℤ c ≡ a *ℤ (b *ℤ c)
+*ℤ_assoc a b c =
     from_parts _ _ (omega (arith, mul_parts (a *ℤ b) c, mul_parts a (b *ℤ c), times c (mul_parts a b), times a (mul_parts b c)))
 
 pub *ℤ-+ℤ : (a b c : ℤ) → a *ℤ (b +ℤ c) ≡ a *ℤ b +ℤ a *ℤ c
 *ℤ-+ℤ a b c =
     from_parts _ _ (omega (arith, mul_parts a (b +ℤ c), add_parts (a *ℤ b) (a *ℤ c), mul_parts a b, mul_parts a c, times a (add_parts b c)))
 
-pub negℤ-*ℤ : (a b : ℤ) → neg_ℤ a *ℤ b ≡ neg_ℤ (a *ℤ b)
-negℤ-*ℤ a b = from_parts _ _ (simp (up_neg, dn_neg) (omega (arith, simp (up_neg, dn_neg) at (mul_parts (neg_ℤ a) b), mul_parts a b)))
+pub neg_ℤ-*ℤ : (a b : ℤ) → neg_ℤ a *ℤ b ≡ neg_ℤ (a *ℤ b)
+neg_ℤ-*ℤ a b = from_parts _ _ (simp (up_neg, dn_neg) (omega (arith, simp (up_neg, dn_neg) at (mul_parts (neg_ℤ a) b), mul_parts a b)))

@@ -14,7 +14,7 @@ use Prim.Native.Nat.{ℕ, zero, suc, compare, Ordering}
 use lib.Dec.{T, compare_is_eq, eqb→eq}
 use lib.IntN.{ℤ, pos, negsuc, neg_ℤ, ◌+ℤ◌, ◌*ℤ◌, one, neg_ℤ-+ℤ, +ℤ_assoc, +ℤ_comm, +ℤ_idl, +ℤ_idr}
 use lib.IntN.{*ℤ-one, *ℤ_comm, *ℤ-zero, zero-*ℤ}
-use Rattle.whole.proofs.Laws.Parts.{*ℤ-assoc, *ℤ-+ℤ, negℤ-*ℤ}
+use Rattle.whole.proofs.Laws.Parts.{*ℤ_assoc, *ℤ-+ℤ, neg_ℤ-*ℤ}
 
 -- ---- expressions
 
@@ -143,7 +143,7 @@ unfolding one
 one-*ℤ z = *ℤ_comm (pos 1) z ∙ *ℤ-one z
 
 *ℤ_left_comm : (a b c : ℤ) → a *ℤ (b *ℤ c) ≡ b *ℤ (a *ℤ c)
-*ℤ_left_comm a b c = sym (*ℤ-assoc a b c) ∙ ap (λ (t : ℤ). t *ℤ c) (*ℤ_comm a b) ∙ *ℤ-assoc b a c
+*ℤ_left_comm a b c = sym (*ℤ_assoc a b c) ∙ ap (λ (t : ℤ). t *ℤ c) (*ℤ_comm a b) ∙ *ℤ_assoc b a c
 
 +ℤ_left_comm : (a b c : ℤ) → a +ℤ (b +ℤ c) ≡ b +ℤ (a +ℤ c)
 +ℤ_left_comm a b c = sym (+ℤ_assoc a b c) ∙ ap (λ (t : ℤ). t +ℤ c) (+ℤ_comm a b) ∙ +ℤ_assoc b a c
@@ -151,8 +151,8 @@ one-*ℤ z = *ℤ_comm (pos 1) z ∙ *ℤ-one z
 +ℤ-*ℤ : (a b c : ℤ) → (a +ℤ b) *ℤ c ≡ a *ℤ c +ℤ b *ℤ c
 +ℤ-*ℤ a b c = *ℤ_comm (a +ℤ b) c ∙ *ℤ-+ℤ c a b ∙ ap₂ ◌+ℤ◌ (*ℤ_comm c a) (*ℤ_comm c b)
 
-*ℤ-cross : (a b c d : ℤ) → (a *ℤ b) *ℤ (c *ℤ d) ≡ (a *ℤ c) *ℤ (b *ℤ d)
-*ℤ-cross a b c d = *ℤ-assoc a b (c *ℤ d) ∙ ap (λ (t : ℤ). a *ℤ t) (*ℤ_left_comm b c d) ∙ sym (*ℤ-assoc a c (b *ℤ d))
+*ℤ_cross : (a b c d : ℤ) → (a *ℤ b) *ℤ (c *ℤ d) ≡ (a *ℤ c) *ℤ (b *ℤ d)
+*ℤ_cross a b c d = *ℤ_assoc a b (c *ℤ d) ∙ ap (λ (t : ℤ). a *ℤ t) (*ℤ_left_comm b c d) ∙ sym (*ℤ_assoc a c (b *ℤ d))
 
 -- monomials that compare equal are one
 then_eq : (o p : Ordering) → T (compare_is_eq (then o p)) → T (compare_is_eq o) × T (compare_is_eq p)
@@ -183,7 +183,7 @@ module _ (ρ : List ℤ) where
   mono_join : (m n : List ℕ) → mono (join m n) ρ ≡ mono m ρ *ℤ mono n ρ
   mono_join [] n = sym (one-*ℤ (mono n ρ))
   mono_join (i ∷ m) n =
-      mono_insert i (join m n) ∙ ap (λ (t : ℤ). nth ρ i *ℤ t) (mono_join m n) ∙ sym (*ℤ-assoc (nth ρ i) (mono m ρ) (mono n ρ))
+      mono_insert i (join m n) ∙ ap (λ (t : ℤ). nth ρ i *ℤ t) (mono_join m n) ∙ sym (*ℤ_assoc (nth ρ i) (mono m ρ) (mono n ρ))
 
   total_front : (k : ℤ) (m : List ℕ) (s : Sum) → total (front k m s) ρ ≡ k *ℤ mono m ρ +ℤ total s ρ
   total_front (pos zero) m s = sym (ap (λ (t : ℤ). t +ℤ total s ρ) (zero-*ℤ (mono m ρ)) ∙ +ℤ_idl (total s ρ))
@@ -215,7 +215,7 @@ module _ (ρ : List ℤ) where
   total_scale k m none = sym (*ℤ-zero (k *ℤ mono m ρ))
   total_scale k m (more j n s) =
       total_put (k *ℤ j) (join m n) (scale k m s)
-      ∙ ap₂ ◌+ℤ◌ (ap (λ (u : ℤ). (k *ℤ j) *ℤ u) (mono_join m n) ∙ *ℤ-cross k j (mono m ρ) (mono n ρ)) (total_scale k m s)
+      ∙ ap₂ ◌+ℤ◌ (ap (λ (u : ℤ). (k *ℤ j) *ℤ u) (mono_join m n) ∙ *ℤ_cross k j (mono m ρ) (mono n ρ)) (total_scale k m s)
       ∙ sym (*ℤ-+ℤ (k *ℤ mono m ρ) (j *ℤ mono n ρ) (total s ρ))
 
   total_times : (s t : Sum) → total (times s t) ρ ≡ total s ρ *ℤ total t ρ
@@ -226,7 +226,7 @@ module _ (ρ : List ℤ) where
 
   total_minus : (s : Sum) → total (minus s) ρ ≡ neg_ℤ (total s ρ)
   total_minus none = refl
-  total_minus (more k m s) = ap₂ ◌+ℤ◌ (negℤ-*ℤ k (mono m ρ)) (total_minus s) ∙ sym (neg_ℤ-+ℤ (k *ℤ mono m ρ) (total s ρ))
+  total_minus (more k m s) = ap₂ ◌+ℤ◌ (neg_ℤ-*ℤ k (mono m ρ)) (total_minus s) ∙ sym (neg_ℤ-+ℤ (k *ℤ mono m ρ) (total s ρ))
 
   -- a number alone
   total_constant : (k : ℤ) → total (front k [] none) ρ ≡ k

@@ -3,7 +3,7 @@
 use Rattle.std.proofs.Common.{◌≡◌, ℕ, ◌+◌, ◌-◌, ◌*◌, ◌/◌, ◌%◌, ◌^◌, ◌<◌, ◌≤◌, [], ◌∷◌, ℤ, pos, negsuc, ◌+ℤ◌, ◌-ℤ◌, ◌*ℤ◌, neg_ℤ, ap, subst, arith}
 use Rattle.refusal.specs.Outcome.{Fixes}
 use Rattle.whole.specs.Order.{◌≤ᶻ◌, ◌<ᶻ◌}
-use Rattle.whole.proofs.Laws.Parts.{up, dn, difference_parts, ≤-parts, <-parts, ≡-parts}
+use Rattle.whole.proofs.Laws.Parts.{up, dn, difference_parts, ≤_parts, <_parts, ≡_parts}
 use Rattle.whole.proofs.Laws.Linear.{ints, int_rules}
 use Rattle.word64.specs.Word.{SignedDifferenceSays}
 
@@ -28,8 +28,8 @@ near_says : (A B a b i j : ℕ) → A ≡ a + i * 2 ^ 64 → B ≡ b + j * 2 ^ 6
 unfolding up dn
 near_says A B a b i j p q over under =
     record {
-      least = (≤-parts _ (pos A -ℤ pos B)).1 (omega (arith, difference_parts A B));
-      most = (<-parts (pos A -ℤ pos B) _).1 (omega (arith, difference_parts A B));
+      least = (≤_parts _ (pos A -ℤ pos B)).1 (omega (arith, difference_parts A B));
+      most = (<_parts (pos A -ℤ pos B) _).1 (omega (arith, difference_parts A B));
       differs = (pos j -ℤ pos i, without_words (pos A) (pos B) (pos a) (pos b) (pos i) (pos j) (ap pos p) (ap pos q));
     }
 
@@ -45,12 +45,12 @@ module _ (a b d : ℕ) (below : d < 2 ^ 64) (wraps : (d + b) % 2 ^ 64 ≡ a) whe
   pub difference_up : d < 2 ^ 63 → SignedDifferenceSays a b (pos d)
   unfolding up dn
   difference_up h =
-      let is : pos (d + b) -ℤ pos b ≡ pos d = (≡-parts _ _).1 (omega (arith, difference_parts (d + b) b)) in
+      let is : pos (d + b) -ℤ pos b ≡ pos d = (≡_parts _ _).1 (omega (arith, difference_parts (d + b) b)) in
       subst (SignedDifferenceSays a b) is (near_says (d + b) b a b ((d + b) / 2 ^ 64) 0 (omega arith) (omega arith) (omega arith) (omega arith))
 
   pub difference_down : 2 ^ 63 ≤ d → SignedDifferenceSays a b (negsuc (2 ^ 64 - 1 - d))
   unfolding up dn
   difference_down h =
-      let is : pos (d + b) -ℤ pos (b + 2 ^ 64) ≡ negsuc (2 ^ 64 - 1 - d) = (≡-parts _ _).1 (omega (arith, difference_parts (d + b) (b + 2 ^ 64))) in
+      let is : pos (d + b) -ℤ pos (b + 2 ^ 64) ≡ negsuc (2 ^ 64 - 1 - d) = (≡_parts _ _).1 (omega (arith, difference_parts (d + b) (b + 2 ^ 64))) in
       subst (SignedDifferenceSays a b) is
       (near_says (d + b) (b + 2 ^ 64) a b ((d + b) / 2 ^ 64) 1 (omega arith) (omega arith) (omega arith) (omega arith))
