@@ -21,16 +21,17 @@ PROMISE = re.compile(r"^(abbrev pub|pub record) (\w+Says)\b", re.MULTILINE)
 LAW = re.compile(r"^( *)(?:pub )?(\S+_fixed) :(.*?)(?=^ *\2 |^ *unfolding |\Z)", re.MULTILINE | re.DOTALL)
 STATEMENT = re.compile(r"((?:\([^()]*\)\s*)+)→ Fixes \((?:λ \([^()]*\)\. )?(\w+Says)\b([\w\s().]*)\)")
 
-# Calls that read or write: no contract can speak of all that they move, so theirs fixes no result and is no named promise.
+# Calls that read or write, each with the facts that its clauses state, one a clause: no contract can speak of all that they move, so
+# theirs fixes no result and is no named promise.
 MOVING = {
-    "serve::desk",
-    "serve::why",
-    "system::bytes_of",
-    "system::filled",
-    "system::read",
-    "system::tell",
-    "system::write",
-    "system::write_to",
+    "serve::desk": [],
+    "serve::why": [],
+    "system::bytes_of": ["IsWithin"],
+    "system::filled": ["HoldsStart"],
+    "system::read": ["ReadsAtMost", "ReadConsumes"],
+    "system::tell": [],
+    "system::write": [],
+    "system::write_to": ["Appends", "AppendsStart"],
 }
 
 
@@ -46,6 +47,16 @@ class Call:
 
     def is_promised(self):
         return str(self) not in MOVING
+
+    def faults_of_moving(self):
+        """What is wrong with the contract of a call that reads or writes."""
+        if self.requires():
+            return ["it has a requires"]
+        facts, text = MOVING[str(self)], self.path.read_text()
+        found = [set(re.findall(r"\w+", text[start:end])) for _, start, end in self.clauses]
+        if len(found) == len(facts) and all(fact in words for fact, words in zip(facts, found)):
+            return []
+        return [f"its clauses are not of {', '.join(facts)}" if facts else "it has a contract, and is listed as having none"]
 
     def requires(self):
         return any(kind == "requires" for kind, _, _ in self.clauses)
