@@ -3,6 +3,8 @@
 pub mod Product
 -- the roundoff as the code finds it
 pub mod Cut
+-- what owning a point tells
+pub mod Owned
 -- a run to its end: it decides
 pub mod ToTheEnd
 -- the twelve summands: their total is the determinant

@@ -26,11 +26,11 @@ use Rattle.double.proofs.Laws.Apart.{significand_below, significand_exact}
 use Rattle.double.proofs.Laws.Lacking.{lack_digits}
 
 -- ---- what is asked
--- a factor is at most 2 ^ factorMost units, which is 2 ^ 990
+-- a factor is at most 2 ^ factor_most units, which is 2 ^ 990
 abbrev pub factor_most : ℕ
 factor_most = 2064
 
--- the product is below 2 ^ productMost squares of units, which is 2 ^ 1023
+-- the product is below 2 ^ product_most squares of units, which is 2 ^ 1023
 abbrev pub product_most : ℕ
 product_most = 3171
 
