@@ -1,7 +1,9 @@
 """The public calls of the repository's libraries, each with its contract, its promise and its law.
 
-A call is a function that another crate can name: a `pub fn` of src/lib.rt or of a `pub mod`, or one
-that a `pub use` hands on. A form of item that is not read here is an error, so that no call is missed.
+A call is a function that another crate can name: a `pub fn` of src/lib.rt or of a `pub mod`, one that a
+`pub use` hands on, or, as crate::Type::name, a `pub fn` in an `impl` of a type that another crate can
+name, and each function in an `impl` of a trait for such a type, of which a ghost member may be the promise.
+What a derive adds is not looked at. A form of item that is not read here is an error, so that no call is missed.
 """
 
 import re
@@ -11,15 +13,22 @@ FOR_C = re.compile(r"^(\w+) staticlib: (\w+)", re.MULTILINE)
 COMMENT = re.compile(r"//[^\n]*")
 MODULE = re.compile(r"^(pub )?mod (\w+);", re.MULTILINE)
 HANDED_ON = re.compile(r"^pub use ([^;]*);", re.MULTILINE)
-FUNCTION = re.compile(r'^(pub )?(?:extern "C" )?fn (\w+)(?:<[^()]*?>)?\(([^()]*)\)\s*(?:-> ([^{]*?))?\s*(?=\{|requires\b|ensures\b)', re.MULTILINE)
+SIGNATURE = r"fn (\w+)(?:<(?:[^()]|\([^()]*\))*?>)?\(([^()]*)\)\s*(?:-> ([^{]*?))?\s*(?=\{|requires\b|ensures\b)"
+FUNCTION = re.compile(r'^(pub )?(?:extern "C" )?' + SIGNATURE, re.MULTILINE)
+METHOD = re.compile(r"^    (?:(pub )|pub\(crate\) )?" + SIGNATURE, re.MULTILINE)
+IMPL = re.compile(r"^impl(?:<[^(){}\n]*>)? ([\w:]+(?:<[^(){}\n]*>)? for )?(\w+)(?:<[^(){}\n]*>)? \{\n(.*?)^\}", re.MULTILINE | re.DOTALL)
 CLAUSE = re.compile(r"\s*(requires|ensures)\b[^{]*\{")
+DECLARED = re.compile(r"^(pub )?(?:struct|enum) (\w+)", re.MULTILINE)
+ALIAS = re.compile(r"^pub type [^=]*= (?:\w+::)*(\w+)", re.MULTILINE)
 TYPE = r"^pub (?:struct|enum|const|type) {}\b"
-ITEM = re.compile(r'(pub )?(mod \w+;|use |(extern "C" )?fn |struct |enum |const \w+:|type )|ghost use |#!?\[|[{}()]')  # how a line can start
+ITEM = re.compile(r'(pub )?(mod \w+;|use |(extern "C" )?fn |struct |enum |const \w+:|type )|impl\b|ghost use |#!?\[|[{}()]')  # how a line can start
+MEMBER = re.compile(r"(pub |pub\(crate\) )?(fn |const \w+:|type )|ghost |#\[|[{}()]")  # and one in an `impl`, after its indentation
+GIVES = re.compile(r"^    ghost \w+_gives = \{ (\w+Says) \};", re.MULTILINE)  # what a trait has for the contract of its function
 PROMISED = re.compile(r"\s*(\w+Says)\b([^{}]*)")
 USE = re.compile(r"^(?:ghost )?use (\S+)\.\{([^}]*)\}", re.MULTILINE)
 PROMISE = re.compile(r"^(abbrev pub|pub record) (\w+Says)\b", re.MULTILINE)
 LAW = re.compile(r"^( *)(?:pub )?(\S+_fixed) :(.*?)(?=^ *\2 |^ *unfolding |\Z)", re.MULTILINE | re.DOTALL)
-STATEMENT = re.compile(r"((?:\([^()]*\)\s*)+)→ Fixes \((?:λ \([^()]*\)\. )?(\w+Says)\b([\w\s().]*)\)")
+STATEMENT = re.compile(r"(?:\{[^{}]*\}\s*)*((?:\([^()]*\)\s*)+)→ Fixes \((?:λ \([^()]*\)\. )?(\w+Says)\b([\w\s().]*)\)")
 
 # Calls that read or write, each with the facts that its clauses state, one a clause: no contract can speak of all that they move, so
 # theirs fixes no result and is no named promise.
@@ -36,11 +45,11 @@ MOVING = {
 
 
 class Call:
-    def __init__(self, crate, path, function, clauses):
-        self.crate, self.path, self.name, self.clauses = crate, path, function[2], clauses
-        self.parameters = [tuple(part.strip().removeprefix("mut ").split(": ", 1)) for part in function[3].split(",") if part.strip()]
+    def __init__(self, crate, path, function, text, of="", gives=None):
+        self.crate, self.path, self.name, self.clauses = crate, path, of + function[2], clauses_after(function.end(), text)
+        self.parameters = [parameter(part.strip()) for part in function[3].split(",") if part.strip()]
         self.answers = function[4] is not None
-        self.law = self.name + "_fixed"
+        self.law, self.gives = function[2] + "_fixed", gives
 
     def __str__(self):
         return f"{self.crate}::{self.name}"
@@ -70,6 +79,8 @@ class Call:
         """The promise that its contract cites, as it has to."""
         if self.requires():
             raise Wrong("it has a requires")
+        if self.gives and not self.clauses:
+            return self.gives[1]
         if not self.ensured():
             raise Wrong(f"it has {len(self.clauses) or 'no'} ensures")
         start, end = self.ensured()
@@ -86,6 +97,12 @@ class Call:
         before = [name + (".old" if kind.startswith("&mut ") else ".now" if kind.startswith("&") else "") for name, kind in self.parameters]
         after = [f"{name}.new" for name, kind in self.parameters if kind.startswith("&mut ")]
         return before + ["result"] * self.answers + after
+
+
+def parameter(text):
+    """Its name and its type; &mut self is of type &mut Self."""
+    name, typed, kind = text.removeprefix("mut ").partition(": ")
+    return (name, kind) if typed else ("self", name.replace("self", "Self"))
 
 
 class Wrong(Exception):
@@ -111,31 +128,60 @@ def calls_in(root):
         if (source / "lib.rt").exists():
             for path in source.glob("**/*.rt"):
                 all_read(path)
-            calls |= {(call.path, call.name): call for call in calls_of(crate, source / "lib.rt", source)}
+            calls |= {(call.path, call.name): call for call in calls_of(crate, source)}
     return list(calls.values())
 
 
 def all_read(path):
     text = code_of(path)
-    functions = {text.count("\n", 0, function.start()) for function in FUNCTION.finditer(text)}
+    read = {line_at(found.start(), text) for form in (FUNCTION, METHOD, IMPL) for found in form.finditer(text)}
+    in_impl = {line for impl in IMPL.finditer(text) for line in range(line_at(impl.start(3), text), line_at(impl.end(3), text))}
     for number, line in enumerate(text.split("\n")):
-        item = ITEM.match(line)
-        if line[:1].strip() and (not item or "fn " in item[0] and number not in functions):
+        start, forms = (line.removeprefix("    "), MEMBER) if number in in_impl else (line, ITEM)
+        item = forms.match(start)
+        if start[:1].strip() and (not item or item[0].endswith(("fn ", "impl")) and number not in read):
             raise Wrong(f"{path}:{number + 1}: tests/calls.py does not read `{line}`")
 
 
-def calls_of(crate, path, folder):
-    """The calls of a public module, whose own modules stand in the folder."""
-    text = code_of(path)
-    for function in FUNCTION.finditer(text):
-        if function[1]:
-            yield Call(crate, path, function, clauses_after(function.end(), text))
-    for public, module in MODULE.findall(text):
+def line_at(place, text):
+    return text.count("\n", 0, place)
+
+
+def calls_of(crate, source):
+    """The calls of a library: the functions that other crates can name, and those of the types that they can name."""
+    types = set()
+    for path, folder in public_modules(source / "lib.rt", source):
+        text = code_of(path)
+        yield from (Call(crate, path, function, text) for function in FUNCTION.finditer(text) if function[1])
+        types |= {name for public, name in DECLARED.findall(text) if public} | set(ALIAS.findall(text))
+        for handed in HANDED_ON.findall(text):
+            for handed_path in paths_of(handed):
+                yield from handed_on(crate, folder, handed_path)
+                types.add(handed_path.split("::")[-1])
+    yield from methods_of(crate, sorted(source.glob("**/*.rt")), types)
+
+
+def public_modules(path, folder):
+    """A public module, whose own modules stand in the folder, and those of them that are public, each with its folder."""
+    yield path, folder
+    for public, module in MODULE.findall(code_of(path)):
         if public:
-            yield from calls_of(crate, folder / f"{module}.rt", folder / module)
-    for handed in HANDED_ON.findall(text):
-        for path in paths_of(handed):
-            yield from handed_on(crate, folder, path)
+            yield from public_modules(folder / f"{module}.rt", folder / module)
+
+
+def methods_of(crate, paths, types):
+    """The calls in each `impl` of these types, which may stand in any file."""
+    declared = {path: {name: bool(public) for public, name in DECLARED.findall(code_of(path))} for path in paths}
+    for path in paths:
+        text = code_of(path)
+        for impl in IMPL.finditer(text):
+            trait, name, _ = impl.groups()
+            if not any(name in names for names in declared.values()):
+                raise Wrong(f"{path}: tests/calls.py does not find the type of `impl {name}`")
+            if name in types and declared[path].get(name, True):
+                methods = METHOD.finditer(text, *impl.span(3))
+                gives = GIVES.search(impl[3]) if trait else None
+                yield from (Call(crate, path, method, text, f"{name}::", gives) for method in methods if trait or method[1])
 
 
 def paths_of(handed):
@@ -148,7 +194,7 @@ def handed_on(crate, folder, handed):
     *modules, item = handed.split("::")
     path = folder.joinpath(*modules).with_suffix(".rt")
     text = code_of(path) if path.exists() else ""
-    calls = [Call(crate, path, function, clauses_after(function.end(), text)) for function in FUNCTION.finditer(text) if function[2] == item]
+    calls = [Call(crate, path, function, text) for function in FUNCTION.finditer(text) if function[2] == item]
     if not calls and not re.search(TYPE.format(re.escape(item)), text, re.MULTILINE):
         raise Wrong(f"{crate}: tests/calls.py does not find what `pub use {handed}` hands on")
     return calls

@@ -1,56 +1,41 @@
 // The reply to each whole line.
-use crate::held::{Bytes, List};
+use crate::fault::Fault;
+use crate::held::Held;
 use crate::part::first;
 use crate::reply::Reply;
-use crate::{meetings, numbers, planes, plans, reasons, reply, sides, sums, tracks};
+use crate::{meetings, numbers, planes, plans, reasons, sides, sums, tracks};
 use line::answer::{Asked, Question, Word};
 
-// The reply to what a line asks, with the first `taken` numbers that are held. Of a line that is copied only the line end is left.
-pub fn answer(asked: Asked, taken: usize, bytes: &mut Bytes, list: &mut List) -> Reply {
+// The reply to what a line asks, with the numbers that are held: its answer, or why it has none.
+pub fn answer(asked: Asked, held: &mut Held) -> Reply {
+    asked_of(asked, held).unwrap_or_else(Reply::from)
+}
+
+// Of a line that is copied only the line end is left.
+fn asked_of(asked: Asked, held: &mut Held) -> Result<Reply, Fault> {
     match asked {
-        Asked::Nothing => reply::blank(),
-        Asked::Unclear => reply::unclear(),
-        Asked::OfDoubles(q) => questioned(q, taken, bytes, list),
-        Asked::OfFile(room) => tracks::read(room, first(bytes, taken), list),
+        Asked::Nothing => Ok(Reply::blank()),
+        Asked::Unclear => Err(Fault::Unclear),
+        Asked::OfDoubles(q) => questioned(q, held),
+        Asked::OfFile(room) => tracks::read(room, first(&held.bytes, held.taken), &mut held.list),
     }
 }
 
-// The doubles of a question are the first of the list, so that no more were taken than it holds.
-fn questioned(q: Question, taken: usize, bytes: &mut [u8], list: &mut [f64]) -> Reply {
-    if list.len() < taken {
-        return reply::unclear();
-    }
-    let word = q.word;
-    if let Word::Write = word {
-        return tracks::write(q.count, &list[..taken], bytes);
-    }
-    if let Word::Why = word {
-        return reasons::why(q.count, &list[..taken], bytes);
-    }
-    told(word, q.count, &mut list[..taken])
-}
-
-// A question with a count, and those that have none. A run alters the doubles.
-fn told(word: Word, count: u32, list: &mut [f64]) -> Reply {
-    if let Word::Run = word {
-        return sums::run(list, count);
-    }
-    if let Word::Plan = word {
-        return plans::plan(count, list);
-    }
-    looked(word, list)
-}
-
-// A question of doubles alone.
-fn looked(word: Word, list: &[f64]) -> Reply {
-    match word {
+// The doubles of a question are the first of the list, so that no more were taken than it holds. A run alters them.
+fn questioned(q: Question, held: &mut Held) -> Result<Reply, Fault> {
+    let list = held.list.get_mut(..held.taken).ok_or(Fault::Unclear)?;
+    match q.word {
         Word::Apart => numbers::apart(list),
+        Word::Run => sums::run(list, q.count),
         Word::Ceiling => sums::ceiling(list),
         Word::Plain => sums::plain(list),
         Word::Side => sides::side(list),
         Word::Zone => sides::zone(list),
         Word::Plane => planes::plane(list),
         Word::Meet => meetings::meet(list),
-        Word::Run | Word::Why | Word::Plan | Word::Write | Word::Read => reply::unclear(),
+        Word::Why => reasons::why(q.count, list, &mut held.bytes),
+        Word::Plan => plans::plan(q.count, list),
+        Word::Write => tracks::write(q.count, list, &mut held.bytes),
+        Word::Read => Err(Fault::Unclear),
     }
 }

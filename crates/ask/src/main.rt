@@ -2,6 +2,7 @@
 #![tactic(auto)]
 
 mod answer;
+mod fault;
 mod held;
 mod meetings;
 mod numbers;
@@ -13,166 +14,98 @@ mod reasons;
 mod reply;
 mod sides;
 mod sums;
-mod taken;
 mod tracks;
 mod word;
 
-use held::{Bytes, Input, List, Out};
+use held::Held;
 use line::answer::Line;
-use part::first;
+use out::{Failed, Out};
 use std::io::{Eprint, Print, Read};
 
-// What is left after some bytes of input: the line that they end in, how much of its numbers is held, and how many bytes of output wait.
-#[derive(Clone, Copy)]
-struct Left {
+// What is left after some bytes of input: the line that they end in, the numbers of it that are held, and the output that waits.
+#[derive(Drop)]
+struct Tool<'a, R> {
     line: Line,
-    taken: usize,
-    len: usize,
+    held: Held,
+    out: Out<'a, R>,
 }
 
-// One byte of input more: a line end has the line answered.
-fn fed<R: Print + Eprint>(
-    rt: &R,
-    left: Left,
-    b: u8,
-    bytes: &mut Bytes,
-    list: &mut List,
-    out: &mut Out,
-) -> Left {
-    let line = left.line;
-    if b == b'\n' {
-        return Left {
-            line: Line::Empty,
-            taken: 0,
-            len: replied(rt, line, left.taken, bytes, list, out, left.len),
-        };
-    }
-    let step = line::next(line, b);
-    let more = step.line;
-    let found = step.found;
-    Left {
-        line: more,
-        taken: taken::with(found, left.taken, bytes, list),
-        len: copied(rt, more, b, out, left.len),
-    }
-}
-
-// The answer of a whole line, put out.
-fn replied<R: Print + Eprint>(
-    rt: &R,
-    line: Line,
-    taken: usize,
-    bytes: &mut Bytes,
-    list: &mut List,
-    out: &mut Out,
-    len: usize,
-) -> usize {
-    let end = line::ended(line);
-    let asked = end.asked;
-    let found = end.found;
-    let n = taken::with(found, taken, bytes, list);
-    let reply = answer::answer(asked, n, bytes, list);
-    out::put_reply(rt, out, len, reply, bytes, list)
-}
-
-// The last byte of a line, put out where the line is copied.
-fn copied<R: Print + Eprint>(rt: &R, line: Line, b: u8, out: &mut Out, len: usize) -> usize {
-    if let Line::Comment = line {
-        return out::put(rt, out, len, b);
-    }
-    len
-}
-
-// The first n bytes of `input` more, one by one.
-fn feed<R: Print + Eprint>(
-    rt: &R,
-    left: Left,
-    input: &Input,
-    n: usize,
-    bytes: &mut Bytes,
-    list: &mut List,
-    out: &mut Out,
-) -> Left {
-    let more = first(input, n);
-    let mut left = left;
-    let mut i: usize = 0;
-    while i < more.len() {
-        left = fed(rt, left, more[i], bytes, list, out);
-        i += 1;
-    }
-    left
-}
-
-// The last line where it has no line end.
-fn last<R: Print + Eprint>(
-    rt: &R,
-    line: Line,
-    taken: usize,
-    bytes: &mut Bytes,
-    list: &mut List,
-    out: &mut Out,
-) {
-    if let Line::Empty = line {
-        return;
-    }
-    let len = replied(rt, line, taken, bytes, list, out, 0);
-    out::flush(rt, out, len);
-}
-
-// What one read of the input gives.
-#[derive(Clone, Copy)]
-enum Got {
-    Bytes(usize),
-    // The input is over.
-    Ended,
-    // It can not be read, which is told on standard error.
-    Failed,
-}
-
-fn filled<R: Eprint, F: Read>(rt: &R, from: &mut F, input: &mut Input) -> Got {
-    match system::read(from, input) {
-        Ok(0) => Got::Ended,
-        Ok(n) => Got::Bytes(n),
-        Err(error) => {
-            system::failure::tell(rt, "input", &error);
-            Got::Failed
-        }
-    }
-}
-
-// Reads until the input is over, and writes what each read answers, so that nothing waits while the next read does. Where a write fails the
-// run ends; where a read fails too, and a line that was cut off is not answered.
-// (The count of turns, which no input reaches, is why this ends.)
-fn main(rt: HostRuntime) {
-    let mut from = rt.stdin();
-    let mut input = io::large_buffer();
-    let mut out = io::large_buffer();
-    let mut bytes = [0u8; held::HELD];
-    let mut list = [0.0f64; held::LIST];
-    let mut left = Left {
-        line: Line::Empty,
-        taken: 0,
-        len: 0,
-    };
-    let mut turns = u64::MAX;
-    while 0 < turns {
-        turns -= 1;
-        match filled(&rt, &mut from, &mut input) {
-            Got::Bytes(n) => {
-                left = feed(&rt, left, &input, n, &mut bytes, &mut list, &mut out);
-                if !out::flush(&rt, &out, left.len) {
-                    return;
+impl<'a, R: Print + Eprint> Tool<'a, R> {
+    // Reads until the input is over, and writes what each read answers. Where a write fails the run ends; where a read fails too, and a line that was
+    // cut off is not answered. (The count of turns, which no input reaches, is why this ends.)
+    fn run<F: Read>(&mut self, from: &mut F) -> Result<(), Failed> {
+        let mut input = io::large_buffer();
+        for _ in 0..u64::MAX {
+            match system::read(from, &mut input) {
+                Ok(0) => return self.last(),
+                Ok(n) => self.feed(&input[..n])?,
+                Err(error) => {
+                    system::failure::tell(self.out.rt, "input", &error);
+                    return Err(Failed);
                 }
-                left.len = 0;
-            }
-            Got::Ended => {
-                let line = left.line;
-                last(&rt, line, left.taken, &mut bytes, &mut list, &mut out);
-                return;
-            }
-            Got::Failed => {
-                return;
             }
         }
+        Ok(())
     }
+
+    // More of the input: its whole lines are answered, and nothing waits while the next is read. A line end stands before each part but the first.
+    fn feed(&mut self, input: &[u8]) -> Result<(), Failed> {
+        let mut parts = input.split(|b| *b == b'\n');
+        if let Some(part) = parts.next() {
+            self.read(part)?;
+        }
+        for part in parts {
+            self.reply()?;
+            self.read(part)?;
+        }
+        self.out.flush()
+    }
+
+    // More of a line, byte by byte; one that is copied is put out as it comes.
+    fn read(&mut self, part: &[u8]) -> Result<(), Failed> {
+        let mut line = self.line;
+        for b in part {
+            let step = line::next(line, *b);
+            line = step.to;
+            if let Some(found) = step.found {
+                self.held.hold(found);
+            }
+            if let Line::Comment = line {
+                self.out.put(*b)?;
+            }
+        }
+        self.line = line;
+        Ok(())
+    }
+
+    // The answer of a whole line.
+    fn reply(&mut self) -> Result<(), Failed> {
+        let end = line::ended(self.line);
+        if let Some(found) = end.found {
+            self.held.hold(found);
+        }
+        let reply = answer::answer(end.to, &mut self.held);
+        self.line = Line::Empty;
+        self.held.taken = 0;
+        self.out.put_reply(reply, &self.held)
+    }
+
+    // The last line, where it has no line end.
+    fn last(&mut self) -> Result<(), Failed> {
+        if let Line::Empty = self.line {
+            return Ok(());
+        }
+        self.reply()?;
+        self.out.flush()
+    }
+}
+
+fn main(rt: HostRuntime) {
+    let mut tool = Tool {
+        line: Line::Empty,
+        held: Held::new(),
+        out: Out::new(&rt),
+    };
+    // What failed is told already.
+    let _ = tool.run(&mut rt.stdin());
 }

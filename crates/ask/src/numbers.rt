@@ -1,26 +1,18 @@
 // The answers of `double`.
-use crate::reply;
+use crate::fault::Fault;
 use crate::reply::Reply;
-use crate::word::{APART, NONE};
-use double::answer::{Parts, Taken};
+use crate::word::Word;
 
 // apart D: sign bit, significand and exponent.
-pub fn apart(list: &[f64]) -> Reply {
-    if list.len() != 1 {
-        return reply::unclear();
-    }
-    match double::take_apart(list[0]) {
-        Taken::Apart(p) => parted(p),
-        Taken::Refused(r) => reply::refused(r),
-    }
-}
-
-fn parted(p: Parts) -> Reply {
-    reply::said_three(
-        APART,
-        NONE,
-        p.negative as u64,
-        p.significand,
-        p.exponent as u64,
+pub fn apart(list: &[f64]) -> Result<Reply, Fault> {
+    let [x] = *list else {
+        return Err(Fault::Unclear);
+    };
+    let parts = double::take_apart(x)?;
+    Ok(
+        Reply::of(Word::Apart)
+            .number(parts.negative as u64)
+            .number(parts.significand)
+            .number(parts.exponent as u64),
     )
 }

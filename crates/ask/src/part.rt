@@ -1,11 +1,6 @@
 // A part of lent memory.
 
-// The first n bytes of s, or all of them where it has no more.
-pub fn first(s: &[u8], n: usize) -> &[u8] {
-    if n < s.len() { &s[..n] } else { s }
-}
-
-// The first n doubles of s, or all of them where it has no more.
-pub fn first_doubles(s: &[f64], n: usize) -> &[f64] {
-    if n < s.len() { &s[..n] } else { s }
+// The first n of s, or all of them where it has no more.
+pub fn first<T>(s: &[T], n: usize) -> &[T] {
+    &s[..n.min(s.len())]
 }

@@ -1,43 +1,23 @@
-// The answer of `geometry` on four points with heights.
-ghost use Rattle.std.specs.Prelude.{◌+◌, ◌<◌, length};
-
+// The answers of `geometry` on four points with heights.
+use crate::fault::Fault;
 use crate::reply::Reply;
-use crate::sums::sign_word;
-use crate::{reply, word};
-use geometry::answer::{PlaneSide, Signed};
+use crate::word::Word;
 use point::HighPoint;
 
-fn high_point_at(list: &[f64], i: usize) -> HighPoint
-    requires { i + 2 < length list.now }
-{
-    HighPoint {
-        x: list[i],
-        y: list[i + 1],
-        height: list[i + 2],
-    }
+fn high_point(coordinates: &[f64; 3]) -> HighPoint {
+    let [x, y, height] = *coordinates;
+    HighPoint { x, y, height }
 }
 
 // plane D D D D D D D D D D D D: sign and steps.
-pub fn plane(list: &[f64]) -> Reply {
-    if list.len() != 12 {
-        return reply::unclear();
-    }
-    sided(geometry::plane(
-        high_point_at(list, 0),
-        high_point_at(list, 3),
-        high_point_at(list, 6),
-        high_point_at(list, 9),
-    ))
-}
-
-fn sided(side: PlaneSide) -> Reply {
-    match side {
-        PlaneSide::Of(s) => signed(s),
-        PlaneSide::Refused(r) => reply::refused(r),
-    }
-}
-
-fn signed(s: Signed) -> Reply {
-    let sign = s.sign;
-    reply::said_one(word::PLANE, sign_word(sign), s.steps as u64)
+pub fn plane(list: &[f64]) -> Result<Reply, Fault> {
+    let ([p, q, r, s], []) = list.as_chunks() else {
+        return Err(Fault::Unclear);
+    };
+    let side = geometry::plane(high_point(p), high_point(q), high_point(r), high_point(s))?;
+    Ok(
+        Reply::of(Word::Plane)
+            .word(side.sign.into())
+            .number(side.steps as u64),
+    )
 }

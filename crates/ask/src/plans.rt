@@ -1,67 +1,37 @@
 // The answer of `crease`.
-ghost use Rattle.std.specs.Prelude.{◌≤◌, length};
-
+use crate::fault::Fault;
 use crate::held::{CORNERS, COUNTS};
 use crate::reply::Reply;
-use crate::sides::point_at;
-use crate::{reply, word};
-use crease::answer::{Claim, Plan, ZoneRefusal};
+use crate::sides::point;
+use crate::word::Word;
+use crease::answer::Claim;
 
-// A count is held as the double of which it is the pattern.
-fn put_counts(list: &[f64], counts: &mut [usize])
-    requires { length list.now ≤ length counts.old }
-{
-    let mut i: usize = 0;
-    while i < list.len() {
-        counts[i] = double::to_pattern(list[i]) as usize;
-        i += 1;
-    }
-}
-
-// plan N COUNT .. D D D ..: N counts stand before the point and the corners' doubles.
-pub fn plan(n: u32, list: &[f64]) -> Reply {
-    let zones = n as usize;
-    if COUNTS < zones {
-        return reply::unclear();
-    }
-    if list.len() < zones + 2 {
-        return reply::unclear();
-    }
-    if zones + 2 + CORNERS < list.len() {
-        return reply::unclear();
-    }
+// plan N COUNT .. D D D ..: N counts stand before the point and the corners' doubles. A count is held as the double of which it is the pattern.
+pub fn plan(n: u32, list: &[f64]) -> Result<Reply, Fault> {
     let mut counts = [0usize; COUNTS];
-    put_counts(&list[..zones], &mut counts);
-    let doubles = &list[zones..];
-    match crease::plan(&counts[..zones], &doubles[2..], point_at(doubles, 0)) {
-        Plan::Of(claim) => told(claim),
-        Plan::Refused(r) => refused(r),
+    let counts = counts.get_mut(..n as usize).ok_or(Fault::Unclear)?;
+    let (patterns, doubles) = list.split_at_checked(counts.len()).ok_or(Fault::Unclear)?;
+    let (p, corners) = doubles.split_first_chunk().ok_or(Fault::Unclear)?;
+    if CORNERS < corners.len() {
+        return Err(Fault::Unclear);
     }
+    for (count, x) in counts.iter_mut().zip(patterns) {
+        *count = double::to_pattern(*x) as usize;
+    }
+    Ok(told(crease::plan(counts, corners, point(p))?))
 }
 
 fn told(claim: Claim) -> Reply {
+    let reply = Reply::of(Word::Plan);
     match claim {
-        Claim::Border(k) => reply::said_one(word::PLAN, word::BORDER, k as u64),
-        Claim::None => reply::said(word::PLAN, word::NO_ZONE),
-        Claim::Alone(k) => reply::said_one(word::PLAN, word::ALONE, k as u64),
+        Claim::Border(k) => reply.word(Word::Border).number(k as u64),
+        Claim::None => reply.word(Word::NoZone),
+        Claim::Alone(k) => reply.word(Word::Alone).number(k as u64),
         Claim::Shared(both) => {
-            reply::said_two(
-                word::PLAN,
-                word::SHARED,
-                both.first as u64,
-                both.second as u64,
-            )
+            reply
+                .word(Word::Shared)
+                .number(both.first as u64)
+                .number(both.second as u64)
         }
     }
-}
-
-// A refusal that has the zone's number behind the place.
-fn refused(r: ZoneRefusal) -> Reply {
-    reply::said_three(
-        word::REFUSED,
-        word::NONE,
-        r.number as u64,
-        r.place as u64,
-        r.zone as u64,
-    )
 }

@@ -1,56 +1,36 @@
 // The answers of `geometry` on sides and zones.
-ghost use Rattle.std.specs.Prelude.{◌+◌, ◌<◌, length};
-
+use crate::fault::Fault;
 use crate::reply::Reply;
-use crate::sums::sign_word;
-use crate::{reply, word};
-use geometry::answer::{Place, Side, Turn, Zone};
+use crate::word::Word;
+use geometry::answer::Place;
 use point::Point;
 
-pub fn point_at(list: &[f64], i: usize) -> Point
-    requires { i + 1 < length list.now }
-{
-    Point {
-        x: list[i],
-        y: list[i + 1],
-    }
+pub fn point(coordinates: &[f64; 2]) -> Point {
+    let [x, y] = *coordinates;
+    Point { x, y }
 }
 
 // side D D D D D D: sign, stage and steps.
-pub fn side(list: &[f64]) -> Reply {
-    if list.len() != 6 {
-        return reply::unclear();
-    }
-    turned(geometry::side(point_at(list, 0), point_at(list, 2), point_at(list, 4)))
-}
-
-fn turned(side: Side) -> Reply {
-    match side {
-        Side::Of(t) => turn(t),
-        Side::Refused(r) => reply::refused(r),
-    }
-}
-
-fn turn(t: Turn) -> Reply {
-    let sign = t.sign;
-    reply::said_two(word::SIDE, sign_word(sign), t.stage as u64, t.steps as u64)
+pub fn side(list: &[f64]) -> Result<Reply, Fault> {
+    let ([p, q, r], []) = list.as_chunks() else {
+        return Err(Fault::Unclear);
+    };
+    let turn = geometry::side(point(p), point(q), point(r))?;
+    Ok(
+        Reply::of(Word::Side)
+            .word(turn.sign.into())
+            .number(turn.stage as u64)
+            .number(turn.steps as u64),
+    )
 }
 
 // zone D D D ..: the point, then the corners' doubles.
-pub fn zone(list: &[f64]) -> Reply {
-    if list.len() < 2 {
-        return reply::unclear();
-    }
-    match geometry::zone(&list[2..], point_at(list, 0)) {
-        Zone::At(place) => placed(place),
-        Zone::Refused(r) => reply::refused(r),
-    }
-}
-
-fn placed(place: Place) -> Reply {
-    match place {
-        Place::Outside => reply::said(word::ZONE, word::OUTSIDE),
-        Place::Inside => reply::said(word::ZONE, word::INSIDE),
-        Place::Border(k) => reply::said_one(word::ZONE, word::BORDER, k as u64),
-    }
+pub fn zone(list: &[f64]) -> Result<Reply, Fault> {
+    let (p, corners) = list.split_first_chunk().ok_or(Fault::Unclear)?;
+    let reply = Reply::of(Word::Zone);
+    Ok(match geometry::zone(corners, point(p))? {
+        Place::Outside => reply.word(Word::Outside),
+        Place::Inside => reply.word(Word::Inside),
+        Place::Border(k) => reply.word(Word::Border).number(k as u64),
+    })
 }

@@ -1,51 +1,38 @@
 // The answers of `sum`.
+use crate::fault::Fault;
 use crate::reply::Reply;
-use crate::{reply, word};
-use sum::answer::{Ceiling, Plain, Ran, Run, Sign, Verdict};
+use crate::word::Word;
+use sum::answer::Sign;
 
-// The word of a sign.
-pub fn sign_word(sign: Sign) -> usize {
-    match sign {
-        Sign::Minus => word::MINUS,
-        Sign::Zero => word::ZERO,
-        Sign::Plus => word::PLUS,
-    }
-}
-
-fn verdict_word(verdict: Verdict) -> usize {
-    match verdict {
-        Verdict::Decided(s) => sign_word(s),
-        Verdict::Undecided => word::UNDECIDED,
+impl From<Sign> for Word {
+    fn from(sign: Sign) -> Word {
+        match sign {
+            Sign::Minus => Word::Minus,
+            Sign::Zero => Word::Zero,
+            Sign::Plus => Word::Plus,
+        }
     }
 }
 
 // run BUDGET D ..: the sign or undecided, the steps, and the list as it stands after.
-pub fn run(list: &mut [f64], budget: u32) -> Reply {
-    match sum::run(list, budget) {
-        Run::Done(r) => ran(r, list.len()),
-        Run::Refused(r) => reply::refused(r),
-    }
-}
-
-fn ran(r: Ran, n: usize) -> Reply {
-    let verdict = r.verdict;
-    let mut reply = reply::said_one(word::RUN, verdict_word(verdict), r.steps as u64);
-    reply.doubles = n;
-    reply
+pub fn run(list: &mut [f64], budget: u32) -> Result<Reply, Fault> {
+    let ran = sum::run(list, budget)?;
+    Ok(
+        Reply::of(Word::Run)
+            .word(ran.verdict.map_or(Word::Undecided, Word::from))
+            .number(ran.steps as u64)
+            .doubles(list.len()),
+    )
 }
 
 // ceiling D ..
-pub fn ceiling(list: &[f64]) -> Reply {
-    match sum::ceiling(list) {
-        Ceiling::Steps(k) => reply::said_one(word::CEILING, word::NONE, k as u64),
-        Ceiling::Refused(r) => reply::refused(r),
-    }
+pub fn ceiling(list: &[f64]) -> Result<Reply, Fault> {
+    let steps = sum::ceiling(list)?;
+    Ok(Reply::of(Word::Ceiling).number(steps as u64))
 }
 
 // plain D ..
-pub fn plain(list: &[f64]) -> Reply {
-    match sum::plain(list) {
-        Plain::Signed(s) => reply::said(word::PLAIN, sign_word(s)),
-        Plain::Refused(r) => reply::refused(r),
-    }
+pub fn plain(list: &[f64]) -> Result<Reply, Fault> {
+    let sign = sum::plain(list)?;
+    Ok(Reply::of(Word::Plain).word(sign.into()))
 }

@@ -2,18 +2,19 @@
 ghost use Rattle.std.specs.Prelude.{◌≡◌};
 ghost use Rattle.coordinate.specs.Difference.{restored_of, StoredSays};
 
-// The weight of a pattern's top bit: a difference from here on is negative.
-const HALF: u64 = 0x8000_0000_0000_0000;
+// The weight of a pattern's top bit: a difference from here on is negative, and so is a coordinate.
+pub const SIGN: u64 = 0x8000_0000_0000_0000;
 
 // The number that is stored for a pattern and the one before it.
 pub fn stored(pattern: u64, before: u64) -> u64
     ensures { StoredSays pattern before result }
 {
-    let d = std::num::wrapping_sub_u64(pattern, before);
-    if d < HALF {
-        return 2 * d;
+    let d = pattern.wrapping_sub(before);
+    if d < SIGN {
+        2 * d
+    } else {
+        2 * (u64::MAX - d) + 1
     }
-    2 * (u64::MAX - d) + 1
 }
 
 // The pattern that a stored number and the pattern before it stand for.
@@ -21,8 +22,10 @@ pub fn restored(number: u64, before: u64) -> u64
     ensures { result ≡ restored_of number before }
 {
     let half = number / 2;
-    if number % 2 == 0 {
-        return std::num::wrapping_add_u64(half, before);
-    }
-    std::num::wrapping_add_u64(u64::MAX - half, before)
+    let d = if number % 2 == 0 {
+        half
+    } else {
+        u64::MAX - half
+    };
+    d.wrapping_add(before)
 }

@@ -1,14 +1,15 @@
 -- The zones of a plan, lent as one list of doubles and one of corner counts; its refusals, and the promise.
-use Rattle.std.specs.Prelude.{ℕ, ◌+◌, ◌*◌, ◌≡◌, List, [], ◌∷◌, map, eqb, leb, length, take, drop, Float}
+use Rattle.std.specs.Prelude.{ℕ, ◌+◌, ◌*◌, ◌≡◌, List, [], ◌∷◌, map, eqb, leb, length, take, drop, Float, Err, Ok, Result}
 use Rattle.ground.specs.Zone.{Lies}
-use Rattle.refusal.specs.Outcome.{Outcome, answers, refuses, too_many, odd_length}
+use Rattle.refusal.specs.Outcome.{Outcome, answers, refuses, too_many, odd_length, kind_number}
+use Rattle.refusal.specs.declared.Refusal.{Refusal}
 use Rattle.refusal.specs.Judged.{require}
 use Rattle.point.specs.declared.Point.{Point}
 use Rattle.point.specs.Accepted.{accepting_from}
 use Rattle.geometry.specs.Zone.{place_in, zone_of}
 use Rattle.crease.specs.Claim.{Holds}
-use Rattle.crease.specs.declared.answer.Plan.{Plan}
-use Rattle.crease.specs.declared.answer.Plan.TheVariants.{Of, Refused}
+use Rattle.crease.specs.declared.answer.Claim.{Claim}
+use Rattle.crease.specs.declared.answer.ZoneRefusal.{ZoneRefusal}
 
 -- Crease 1: a plan has at most 16 zones
 abbrev pub most_zones : ℕ
@@ -63,17 +64,21 @@ judging_of counts corners p =
 
 -- ---- the answer
 
+-- Order 15: a refusal that is about no zone has 0 beside it: the promise of the conversion
+abbrev pub FromSays : Refusal → ZoneRefusal → Type 0
+FromSays refusal r = r ≡ record { refusal = refusal; zone = 0 }
+
 -- Answer 4: number, place and zone's number of the code's refusal
-abbrev pub verdict_said : Plan → Verdict
-verdict_said (Of claim) = passes
-verdict_said (Refused r) = stops r.number r.place r.zone
+abbrev pub verdict_said : Result Claim ZoneRefusal → Verdict
+verdict_said (Ok claim) = passes
+verdict_said (Err r) = stops (kind_number r.refusal.kind) r.refusal.place r.zone
 
 -- Crease 3 to 6: the claim that is answered holds; a refusal says nothing of the places
-abbrev pub Tells : Plan → List Lies → Type 0
-Tells (Of claim) places = Holds claim places
-Tells (Refused r) places = Unit {0}
+abbrev pub Tells : Result Claim ZoneRefusal → List Lies → Type 0
+Tells (Ok claim) places = Holds claim places
+Tells (Err r) places = Unit {0}
 
 -- the promise of `plan`: it is refused as Order 15 says and not otherwise, and a claim that is answered holds
-pub record PlanSays (counts : List ℕ) (corners : List Float) (p : Point) (r : Plan) : Type 0 where
+pub record PlanSays (counts : List ℕ) (corners : List Float) (p : Point) (r : Result Claim ZoneRefusal) : Type 0 where
   pub judged : verdict_said r ≡ judging_of counts corners p
   pub claim : Tells r (places_in (zones_of counts corners) p)

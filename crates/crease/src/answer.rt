@@ -1,5 +1,9 @@
 // Every answer of this crate. The zones of a plan count from 0.
 
+ghost use Rattle.crease.specs.Plan.{FromSays};
+
+use refusal::Refusal;
+
 // Two zones, the lower one first.
 #[derive(Clone, Copy)]
 pub struct Pair {
@@ -23,14 +27,15 @@ pub enum Claim {
 // A refusal with the number of the zone that it is about, 0 where it is about none.
 #[derive(Clone, Copy)]
 pub struct ZoneRefusal {
-    pub number: u32,
-    pub place: usize,
+    pub refusal: Refusal,
     pub zone: usize,
 }
 
-#[derive(Clone, Copy)]
-pub enum Plan {
-    Of(Claim),
-    // Refusal 1 or 5 at place 0, or 3 at the point's places 0 and 1; or as the first refused zone is refused, with that zone's number.
-    Refused(ZoneRefusal),
+// A refusal that is about no zone.
+impl From<Refusal> for ZoneRefusal {
+    ghost from_gives = { FromSays };
+
+    fn from(refusal: Refusal) -> ZoneRefusal {
+        ZoneRefusal { refusal, zone: 0 }
+    }
 }

@@ -11,10 +11,8 @@ fn with_border(claim: Claim, k: usize) -> Claim
     ensures { result ≡ with_border claim k }
 {
     match claim {
-        Claim::Border(lower) => Claim::Border(lower),
-        Claim::None => Claim::Border(k),
-        Claim::Alone(_) => Claim::Border(k),
-        Claim::Shared(_) => Claim::Border(k),
+        Claim::Border(_) => claim,
+        Claim::None | Claim::Alone(_) | Claim::Shared(_) => Claim::Border(k),
     }
 }
 
@@ -23,17 +21,14 @@ fn with_inside(claim: Claim, k: usize) -> Claim
     ensures { result ≡ with_inside claim k }
 {
     match claim {
-        Claim::Border(j) => Claim::Border(j),
         Claim::None => Claim::Alone(k),
-        Claim::Alone(j) => Claim::Shared(Pair {
-            first: j,
-            second: k,
-        }),
-        Claim::Shared(both) => Claim::Shared(both),
+        Claim::Alone(first) => Claim::Shared(Pair { first, second: k }),
+        Claim::Border(_) | Claim::Shared(_) => claim,
     }
 }
 
 // The claim of the zones below k, with zone k at this place.
+#[tactic(auto, unfolding(geometry::specs::Zone::place_said))]
 pub fn with_zone(claim: Claim, k: usize, place: Place) -> Claim
     ensures { result ≡ with_zone claim k (place_said place) }
 {

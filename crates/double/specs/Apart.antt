@@ -1,17 +1,15 @@
 -- Taking a double apart: Numbers 4 and 5 of docs/RULES.md.
-use Rattle.std.specs.Prelude.{ℕ, ◌-◌, ◌*◌, ◌/◌, ◌^◌, ◌≡◌, Float}
+use Rattle.std.specs.Prelude.{ℕ, ◌-◌, ◌*◌, ◌/◌, ◌^◌, ◌≡◌, Float, Result}
 use Rattle.std.specs.Float.{nan, inf, fin, binary64}
 use Rattle.std.specs.Float.Ieee.{prec, size}
 use Rattle.double.specs.Worth.{mag, of_units}
-use Rattle.refusal.specs.Outcome.{Outcome, answers, refuses, not_finite}
+use Rattle.refusal.specs.Outcome.{Outcome, answers, refuses, not_finite, outcome}
 use Rattle.double.specs.declared.answer.Parts.{Parts}
-use Rattle.double.specs.declared.answer.Taken.{Taken}
-use Rattle.double.specs.declared.answer.Taken.TheVariants.{Apart, Refused}
+use Rattle.refusal.specs.declared.Refusal.{Refusal}
 
 -- Answer 4: the rules' values, or number and place, for each case of the code's answer
-unfoldable pub said : Taken → Outcome Parts
-said (Apart p) = answers p
-said (Refused r) = refuses r.number r.place
+unfoldable pub said : Result Parts Refusal → Outcome Parts
+said r = outcome (λ p. p) r
 
 -- Numbers 5: the exponent of a magnitude of n units: how many binary digits it has beyond 53, or 0
 unfoldable pub exponent_of : ℕ → ℕ
@@ -33,7 +31,7 @@ apart_of (fin s m e) = answers (record {
 })
 
 -- the promise: the parts, or the refusal
-abbrev pub TakenSays : Float → Taken → Type 0
+abbrev pub TakenSays : Float → Result Parts Refusal → Type 0
 TakenSays x r = said r ≡ apart_of x
 
 -- the double that has these parts

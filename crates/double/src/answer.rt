@@ -1,5 +1,4 @@
 // Every answer of this crate.
-use refusal::Refusal;
 
 // A finite double's sign bit, significand and exponent: its magnitude is significand * 2^(exponent - 1074).
 // The significand is below 2^53, and the exponent from 0 to 2,045; zeros and subnormals have exponent 0.
@@ -8,12 +7,4 @@ pub struct Parts {
     pub negative: bool,
     pub significand: u64,
     pub exponent: u32,
-}
-
-#[derive(Clone, Copy)]
-pub enum Taken {
-    // The parts of a finite double.
-    Apart(Parts),
-    // Refusal 2 at place 0.
-    Refused(Refusal),
 }

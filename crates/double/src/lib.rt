@@ -8,4 +8,4 @@ mod apart;
 mod pattern;
 
 pub use apart::take_apart;
-pub use pattern::{from_pattern, to_pattern};
+pub use pattern::{FIELD, SIGN, from_pattern, to_pattern};

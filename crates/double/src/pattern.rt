@@ -4,14 +4,17 @@ ghost use Rattle.double.specs.Pattern.{FromPatternSays, ToPatternSays};
 // The patterns above infinity's, the sign left out, are the NaNs'.
 const INFINITY: u64 = 0x7FF0_0000_0000_0000;
 
-const SIGN: u64 = 0x8000_0000_0000_0000;
+// The weight of the sign bit, and of the exponent's field.
+pub const SIGN: u64 = 0x8000_0000_0000_0000;
+
+pub const FIELD: u64 = 0x0010_0000_0000_0000;
 
 // The double whose bits these are. Every NaN's pattern gives the one NaN: a payload is not kept.
 pub fn from_pattern(bits: u64) -> f64
     ensures { FromPatternSays bits result }
 {
     if INFINITY < bits % SIGN {
-        return 0.0 / 0.0;
+        return f64::NAN;
     }
     f64::from_bits(bits)
 }
@@ -23,8 +26,8 @@ const NAN: u64 = 0x7FF8_0000_0000_0000;
 pub fn to_pattern(x: f64) -> u64
     ensures { ToPatternSays x result }
 {
-    if x != x {
+    if x.is_nan() {
         return NAN;
     }
-    f64::to_bits(x)
+    x.to_bits()
 }

@@ -1,4 +1,6 @@
 -- The laws of the side of a point, of the zone and of the plane, each file over those above it.
+-- a list of coordinates: what refuses it
+pub mod Accepting
 -- the exact product, and for whom it holds
 pub mod Product
 -- the roundoff as the code finds it
@@ -29,8 +31,8 @@ pub mod Located
 pub mod Calls
 -- the same of `sign`
 pub mod SignCalls
--- entries stored one after the other
-pub mod Opening
+-- and that accepted points are not refused it
+pub mod SignAnswered
 -- products of three coordinates, each opened into four summands
 pub mod Opened
 -- the 96 summands of four points: their total is the determinant

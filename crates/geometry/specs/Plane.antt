@@ -1,20 +1,19 @@
 -- On which side of a plane a ball is: p, q, r are the plane's points and s is the ball, each with a height (docs/RULES.md, section Plane).
 -- In order: the 24 products of three coordinates; the four summands of each; the run; the answer, and the refusals of `plane`.
-use Rattle.std.specs.Prelude.{ℕ, ◌≡◌, List, [], ◌∷◌, ◌++◌, ℤ, pos, Float}
+use Rattle.std.specs.Prelude.{ℕ, ◌≡◌, List, [], ◌∷◌, ◌++◌, ℤ, pos, Float, Result}
 use Rattle.std.specs.Float.{binary64}
 use Rattle.std.specs.Float.Ieee.{mul, neg}
-use Rattle.refusal.specs.Outcome.{Outcome, answers, refuses, not_accepted}
+use Rattle.refusal.specs.Outcome.{Outcome, answers, refuses, outcome}
 use Rattle.refusal.specs.Search.{passing_from}
 use Rattle.point.specs.declared.HighPoint.{HighPoint}
 use Rattle.point.specs.Accepted.{accepted_within}
-use Rattle.point.specs.High.{high_accepted}
+use Rattle.point.specs.High.{high_accepting}
 use Rattle.sum.specs.Total.{sign_number}
 use Rattle.sum.specs.Run.{Told, run_of, most_budget}
 use Rattle.geometry.specs.Product.{roundoff_of, pair_of}
 use Rattle.geometry.specs.Side.{sign_decided}
 use Rattle.geometry.specs.declared.answer.Signed.{Signed}
-use Rattle.geometry.specs.declared.answer.PlaneSide.{PlaneSide}
-use Rattle.geometry.specs.declared.answer.PlaneSide.TheVariants.{Of, Refused}
+use Rattle.refusal.specs.declared.Refusal.{Refusal}
 
 -- Plane 3: a product of three coordinates
 pub record Three : Type 0 where
@@ -74,9 +73,8 @@ summed_of p q r s = counted_by (run_of (opened (products_of p q r s)) most_budge
 abbrev pub signed_said : Signed → Counted
 signed_said t = counted (sign_number t.sign) t.steps
 
-unfoldable pub plane_said : PlaneSide → Outcome Counted
-plane_said (Of t) = answers (signed_said t)
-plane_said (Refused r) = refuses r.number r.place
+unfoldable pub plane_said : Result Signed Refusal → Outcome Counted
+plane_said r = outcome signed_said r
 
 -- the twelve coordinates in the order of their places
 abbrev pub three_of : HighPoint → List Float → List Float
@@ -88,10 +86,10 @@ twelve_of p q r s = three_of p (three_of q (three_of r (three_of s [])))
 -- Order 12: 3 only, at the place of the first coordinate that is not accepted
 unfoldable pub plane_of : HighPoint → HighPoint → HighPoint → HighPoint → Outcome Counted
 unfolding passing_from accepted_within summed_of
-plane_of p q r s = passing_from high_accepted not_accepted 0 (twelve_of p q r s) (summed_of p q r s)
+plane_of p q r s = high_accepting (twelve_of p q r s) (summed_of p q r s)
 
 -- the promise of `plane`
-abbrev pub PlaneSays : HighPoint → HighPoint → HighPoint → HighPoint → PlaneSide → Type 0
+abbrev pub PlaneSays : HighPoint → HighPoint → HighPoint → HighPoint → Result Signed Refusal → Type 0
 PlaneSays p q r s a = plane_said a ≡ plane_of p q r s
 
 -- Plane 7: what the ceiling of the 96 summands is never above: a law (Laws.PlaneCalls)

@@ -1,6 +1,6 @@
 -- The side of r against the line from p to q: three stages, and the refusals of `side`; and its sign alone.
-use Rattle.std.specs.Prelude.{ℕ, ◌≡◌, List, [], ◌∷◌, ℤ, pos, negsuc, Float}
-use Rattle.refusal.specs.Outcome.{Outcome, answers, refuses}
+use Rattle.std.specs.Prelude.{ℕ, ◌≡◌, List, [], ◌∷◌, ℤ, pos, negsuc, Float, Result}
+use Rattle.refusal.specs.Outcome.{Outcome, answers, refuses, outcome}
 use Rattle.refusal.specs.Search.{passing_from}
 use Rattle.point.specs.declared.Point.{Point}
 use Rattle.whole.specs.Sign.{sgn}
@@ -13,10 +13,8 @@ use Rattle.side_filter.specs.declared.answer.Early.TheVariants.{Level, Plus, Min
 use Rattle.side_filter.specs.Filter.{filter_of}
 use Rattle.geometry.specs.Product.{summands_of}
 use Rattle.geometry.specs.declared.answer.Turn.{Turn}
-use Rattle.geometry.specs.declared.answer.Side.{Side}
-use Rattle.geometry.specs.declared.answer.Side.TheVariants.{Of, Refused}
-use Rattle.geometry.specs.declared.answer.SideSign.{SideSign}
-use Rattle.geometry.specs.declared.answer.SideSign.TheVariants.{Of as SignOf, Refused as SignRefused}
+use Rattle.refusal.specs.declared.Refusal.{Refusal}
+use Rattle.sum.specs.declared.answer.Sign.{Sign}
 
 -- Side 2: the sign, the stage that found it, and the steps: 0 in stages 1 and 2
 pub record Turned : Type 0 where
@@ -58,9 +56,8 @@ turn_of p q r = by_stage (filter_of p q r) (exact_of p q r)
 abbrev pub turn_said : Turn → Turned
 turn_said t = turned (sign_number t.sign) t.stage t.steps
 
-unfoldable pub said : Side → Outcome Turned
-said (Of t) = answers (turn_said t)
-said (Refused r) = refuses r.number r.place
+unfoldable pub said : Result Turn Refusal → Outcome Turned
+said r = outcome turn_said r
 
 -- the six coordinates in the order of their places
 abbrev pub six_of : Point → Point → Point → List Float
@@ -72,7 +69,7 @@ unfolding passing_from accepted_within turn_of
 side_of p q r = accepting_from 0 (six_of p q r) (turn_of p q r)
 
 -- the promise of `side`
-abbrev pub SideSays : Point → Point → Point → Side → Type 0
+abbrev pub SideSays : Point → Point → Point → Result Turn Refusal → Type 0
 SideSays p q r s = said s ≡ side_of p q r
 
 -- Side 14: the most steps of a side; that they are never more is a law (Laws.Calls)
@@ -81,9 +78,8 @@ most_steps = 480
 
 -- ---- the sign alone
 
-unfoldable pub sign_said : SideSign → Outcome ℤ
-sign_said (SignOf s) = answers (sign_number s)
-sign_said (SignRefused r) = refuses r.number r.place
+unfoldable pub sign_said : Result Sign Refusal → Outcome ℤ
+sign_said r = outcome sign_number r
 
 -- Side 15: the sign of the exact determinant; refused as a side is (Order 5)
 unfoldable pub sign_of : Point → Point → Point → Outcome ℤ
@@ -91,5 +87,5 @@ unfolding passing_from accepted_within
 sign_of p q r = accepting_from 0 (six_of p q r) (sgn (determinant p q r))
 
 -- the promise of `sign`
-abbrev pub SignSays : Point → Point → Point → SideSign → Type 0
+abbrev pub SignSays : Point → Point → Point → Result Sign Refusal → Type 0
 SignSays p q r s = sign_said s ≡ sign_of p q r

@@ -1,10 +1,10 @@
 -- The zone of corners that are lent as doubles, by the rule of `ground` (docs/RULES.md, section Zone); its refusals, and the promise.
-use Rattle.std.specs.Prelude.{ℕ, ◌+◌, ◌*◌, ◌/◌, ◌%◌, ◌≤◌, ◌<◌, ◌≡◌, cond, List, [], ◌∷◌, map, eqb, leb, ltb, length, get_or, Float}
+use Rattle.std.specs.Prelude.{ℕ, ◌+◌, ◌*◌, ◌/◌, ◌%◌, ◌≤◌, ◌<◌, ◌≡◌, cond, List, [], ◌∷◌, map, eqb, leb, ltb, length, get_or, Float, Result}
 use Rattle.std.specs.Float.{nan}
 use Rattle.ground.specs.Plane.{Spot}
 use Rattle.ground.specs.Edge.{Edge, edge, edges_of}
 use Rattle.ground.specs.Zone.{Lies, outside, border, inside, place_of}
-use Rattle.refusal.specs.Outcome.{Outcome, answers, refuses, too_many, too_few_corners, odd_length}
+use Rattle.refusal.specs.Outcome.{Outcome, too_many, too_few_corners, odd_length, outcome}
 use Rattle.refusal.specs.Search.{passing_from}
 use Rattle.refusal.specs.Judged.{require, also}
 use Rattle.double.specs.Worth.{worth}
@@ -13,8 +13,7 @@ use Rattle.point.specs.Accepted.{accepted_within, accepting_from, Accepted}
 use Rattle.point.specs.Spot.{spot_of}
 use Rattle.geometry.specs.declared.answer.Place.{Place}
 use Rattle.geometry.specs.declared.answer.Place.TheVariants.{Outside, Border, Inside}
-use Rattle.geometry.specs.declared.answer.Zone.{Zone}
-use Rattle.geometry.specs.declared.answer.Zone.TheVariants.{At, Refused}
+use Rattle.refusal.specs.declared.Refusal.{Refusal}
 
 -- Zone 1: a zone has 3 to 64 corners
 abbrev pub fewest : ℕ
@@ -47,6 +46,10 @@ corner_at xs k = record { x = get_or xs (2 * k) nan; y = get_or xs (2 * k + 1) n
 abbrev pub next_of : ℕ → ℕ → ℕ
 next_of n k = cond (ltb (k + 1) n) (k + 1) 0
 
+-- the promise of `next_of`
+abbrev pub NextSays : ℕ → ℕ → ℕ → Type 0
+NextSays n k r = r ≡ next_of n k
+
 abbrev pub edge_at : List Float → ℕ → Edge
 edge_at xs k = edge (spot_of (corner_at xs k)) (spot_of (corner_at xs (next_of (length xs / 2) k)))
 
@@ -64,10 +67,9 @@ place_said Outside = outside
 place_said (Border k) = border k
 place_said Inside = inside
 
-unfoldable pub zone_said : Zone → Outcome Lies
+unfoldable pub zone_said : Result Place Refusal → Outcome Lies
 unfolding place_said
-zone_said (At place) = answers (place_said place)
-zone_said (Refused r) = refuses r.number r.place
+zone_said r = outcome place_said r
 
 -- Order 6: refusal 5, 4, 1, then 3 at the point's places 0 and 1 and the corners' from 2; otherwise the place
 unfoldable pub zone_of : List Float → Point → Outcome Lies
@@ -79,5 +81,5 @@ zone_of corners p =
     accepting_from 0 (p.x ∷ p.y ∷ corners) (place_in corners p))))
 
 -- the promise of `zone`
-abbrev pub ZoneSays : List Float → Point → Zone → Type 0
+abbrev pub ZoneSays : List Float → Point → Result Place Refusal → Type 0
 ZoneSays corners p z = zone_said z ≡ zone_of corners p

@@ -1,8 +1,8 @@
 // Exact products: a rounded product and its roundoff; and the twelve summands of stage 3.
-ghost use Rattle.std.specs.Prelude.{◌≡◌};
+ghost use Rattle.std.specs.Prelude.{◌≡◌, flat_map};
 ghost use Rattle.double.proofs.Laws.ExactProduct.{Factors};
 ghost use Rattle.point.specs.Accepted.{Accepted};
-ghost use Rattle.geometry.specs.Product.{summands_of};
+ghost use Rattle.geometry.specs.Product.{pair_of, summands_of};
 ghost use Rattle.geometry.specs.Parts.{ExactProduct};
 
 use crate::roundoff::roundoff;
@@ -21,24 +21,31 @@ pub fn exact_product(x: f64, y: f64) -> Product
 {
     let rounded = x * y;
     Product {
-        rounded: rounded,
+        rounded,
         roundoff: roundoff(x, y, rounded),
     }
 }
 
-// The twelve summands whose total is the determinant: its six products, each followed by its roundoff.
-pub fn summands(p: Point, q: Point, r: Point) -> [f64; 12]
-    requires { Accepted p × Accepted q × Accepted r }
-    ensures { result ≡ summands_of p q r }
+// The same as two summands: the product before its roundoff.
+pub fn pair(x: f64, y: f64) -> [f64; 2]
+    requires { Factors x y }
+    ensures { result ≡ pair_of x y }
 {
-    let a = exact_product(q.x, r.y);
-    let b = exact_product(-q.x, p.y);
-    let c = exact_product(-p.x, r.y);
-    let d = exact_product(-q.y, r.x);
-    let e = exact_product(q.y, p.x);
-    let f = exact_product(p.y, r.x);
+    let product = exact_product(x, y);
+    [product.rounded, product.roundoff]
+}
+
+// The six pairs whose total is the determinant: flattened, they are the twelve summands.
+pub fn summands(p: Point, q: Point, r: Point) -> [[f64; 2]; 6]
+    requires { Accepted p × Accepted q × Accepted r }
+    ensures { flat_map (λ pair. pair) result ≡ summands_of p q r }
+{
     [
-        a.rounded, a.roundoff, b.rounded, b.roundoff, c.rounded, c.roundoff, d.rounded, d.roundoff,
-        e.rounded, e.roundoff, f.rounded, f.roundoff,
+        pair(q.x, r.y),
+        pair(-q.x, p.y),
+        pair(-p.x, r.y),
+        pair(-q.y, r.x),
+        pair(q.y, p.x),
+        pair(p.y, r.x),
     ]
 }

@@ -10,12 +10,8 @@ ghost use Rattle.double.proofs.Laws.Units.{Real};
 ghost use Rattle.double.proofs.Laws.ExactProduct.{Factors};
 ghost use Rattle.geometry.specs.Product.{roundoff_of};
 
+use double::{FIELD, SIGN};
 use word64::{last_of_product, signed_difference};
-
-// The weight of the sign bit, and of the exponent's field.
-const SIGN: u64 = 0x8000_0000_0000_0000;
-
-const FIELD: u64 = 0x0010_0000_0000_0000;
 
 // A unit is 2^-1074, and so 2^1074 squares of units.
 const UNIT_PLACE: u64 = 1074;
@@ -35,7 +31,7 @@ fn whole_magnitude(x: f64) -> Magnitude
     requires { Real binary64 x }
     ensures { (result.significand ≡ significand_of (mag binary64 x)) × (result.exponent ≡ exponent_of (mag binary64 x)) }
 {
-    let pattern = f64::to_bits(x);
+    let pattern = x.to_bits();
     let field = pattern % SIGN / FIELD;
     // Field 0 has no hidden bit, and counts as field 1.
     let hidden: u64 = if field == 0 { 0 } else { 1 };

@@ -6,40 +6,23 @@ ghost use Rattle.geometry.specs.Side.{turned, exact_of, turn_of, turn_said};
 
 use crate::answer::Turn;
 use crate::product::summands;
+use crate::run_out::run_out;
 use point::Point;
 use side_filter::answer::Early;
 use side_filter::filtered;
-use sum::answer::{Run, Sign, Verdict};
-
-// A run goes to its end.
-pub const TO_THE_END: u32 = u32::MAX;
-
-// What no side comes to: the twelve summands are finite, and the greatest budget is enough.
-fn never() -> Turn {
-    Turn {
-        sign: Sign::Zero,
-        stage: 3,
-        steps: 0,
-    }
-}
+use sum::answer::Sign;
 
 // Stage 3: the sum rule on the twelve summands.
 fn exact(p: Point, q: Point, r: Point) -> Turn
     requires { Accepted p × Accepted q × Accepted r }
     ensures { turn_said result ≡ exact_of p q r }
 {
-    let mut list = summands(p, q, r);
-    let Run::Done(ran) = sum::run(&mut list, TO_THE_END) else {
-        return never();
-    };
-    let v = ran.verdict;
-    let Verdict::Decided(s) = v else {
-        return never();
-    };
+    let mut pairs = summands(p, q, r);
+    let told = run_out(pairs.as_flattened_mut());
     Turn {
-        sign: s,
+        sign: told.sign,
         stage: 3,
-        steps: ran.steps,
+        steps: told.steps,
     }
 }
 
@@ -49,7 +32,7 @@ fn at_once(s: Sign, stage: u32) -> Turn
 {
     Turn {
         sign: s,
-        stage: stage,
+        stage,
         steps: 0,
     }
 }

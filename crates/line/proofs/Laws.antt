@@ -1,5 +1,6 @@
--- What is known of a line: its digits; what a byte more does. And what comes of a line that is read byte by byte: from any point of it, its
--- doubles, a count, counts and doubles, the bytes of its file, the whole of it. Examples are lines whose meaning is computed.
+-- What is known of a line: its digits; that the promises of its calls leave nothing open. And what comes of a line that is read byte by byte:
+-- from any point of it, its doubles, a count, counts and doubles, the bytes of its file, the whole of it. Examples are lines whose meaning is
+-- computed.
 pub mod Digit
 pub mod Next
 pub mod Read

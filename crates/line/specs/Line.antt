@@ -1,12 +1,10 @@
 -- What a whole line asks: words parted by single spaces, of which the first says the form of the others.
-use Rattle.std.specs.Prelude.{ℕ, zero, suc, ◌+◌, ◌*◌, ◌^◌, cond, List, [], ◌∷◌, eqb, ltb}
-use Rattle.line.specs.Numeral.{Numeral, number, none, with_digit, digit_of, pattern_of, count_of}
+use Rattle.std.specs.Prelude.{ℕ, zero, suc, ◌+◌, ◌*◌, ◌^◌, cond, List, [], ◌∷◌, eqb, ltb, Option, Some, None}
+use Rattle.line.specs.Numeral.{with_digit, digit_of, pattern_of, count_of}
 use Rattle.line.specs.Word.{word_of, form_of}
 use Rattle.line.specs.declared.answer.Word.{Word}
 use Rattle.line.specs.declared.word.Form.{Form}
 use Rattle.line.specs.declared.word.Form.TheVariants.{Doubles, Counted, Counts, File}
-use Rattle.line.specs.declared.word.Known.{Known}
-use Rattle.line.specs.declared.word.Known.TheVariants.{Word as Is, None}
 
 -- what a line asks: nothing, since it is copied; nothing that is known; a word with its first count (0 where there is none) and its numbers,
 -- which are the patterns of its doubles, and before them the counts of a plan; or to read a file's bytes with room for so many doubles
@@ -27,9 +25,9 @@ later_of [] = []
 later_of (b ∷ bs) = cond (eqb b 32) (first_of bs ∷ later_of bs) (later_of bs)
 
 -- goes on with a number, where a word is one
-abbrev pub with_number : Numeral → (ℕ → Meaning) → Meaning
-with_number (number n) k = k n
-with_number none k = unclear
+abbrev pub with_number : Option ℕ → (ℕ → Meaning) → Meaning
+with_number (Some n) k = k n
+with_number None k = unclear
 
 -- goes on with the doubles, where each word is one
 unfoldable pub doubles_of : List (List ℕ) → (List ℕ → Meaning) → Meaning
@@ -72,14 +70,14 @@ in_form Counted word words = after_count words (λ n rest. doubles_of rest (of_d
 in_form Counts word words = after_count words (λ n rest. numbers_of n rest (of_doubles word n))
 in_form File word words = after_count words (λ n rest. file_in rest n)
 
-abbrev pub of_word : Known → List (List ℕ) → Meaning
-of_word (Is word) words = in_form (form_of word) word words
+abbrev pub of_word : Option Word → List (List ℕ) → Meaning
+of_word (Some word) words = in_form (form_of word) word words
 of_word None words = unclear
 
 -- the first word by its letters, at most eight of them and none of code 0
-unfoldable pub name_of : ℕ → List ℕ → Numeral
-name_of v [] = number v
-name_of v (b ∷ bs) = cond (eqb b 0) none (cond (ltb v (2 ^ 56)) (name_of (256 * v + b) bs) none)
+unfoldable pub name_of : ℕ → List ℕ → Option ℕ
+name_of v [] = Some v
+name_of v (b ∷ bs) = cond (eqb b 0) None (cond (ltb v (2 ^ 56)) (name_of (256 * v + b) bs) None)
 
 -- what a line asks, by its bytes, the line end left out: an empty line and one that begins with `#`, the code 35, are copied
 unfoldable pub meaning_of : List ℕ → Meaning

@@ -1,24 +1,22 @@
 -- The first word of a question.
-use Rattle.std.specs.Prelude.{ℕ, ◌+◌, ◌*◌, cond, eqb}
+use Rattle.std.specs.Prelude.{ℕ, ◌+◌, ◌*◌, cond, eqb, Option, Some, None}
 use Prim.Native.Char.{code}
 use Prim.Native.String.{String, [] as []ˢ, ◌∷◌ as ◌∷ˢ◌}
 use Rattle.line.specs.declared.answer.Word.{Word}
 use Rattle.line.specs.declared.answer.Word.TheVariants.{Apart, Run, Ceiling, Plain, Side, Zone, Plane, Meet, Why, Plan, Write, Read}
 use Rattle.line.specs.declared.word.Form.{Form}
 use Rattle.line.specs.declared.word.Form.TheVariants.{Doubles, Counted, Counts, File}
-use Rattle.line.specs.declared.word.Known.{Known}
-use Rattle.line.specs.declared.word.Known.TheVariants.{Word as Is, None}
 
 -- the letters of a word after those of v, as one number: 256 for each. No letter is 0, so that no two words have the same.
 abbrev pub letters_of : ℕ → String → ℕ
 letters_of v []ˢ = v
 letters_of v (c ∷ˢ s) = letters_of (256 * v + code c) s
 
-abbrev pub is_word : ℕ → String → Word → Known → Known
-is_word letters name word other = cond (eqb letters (letters_of 0 name)) (Is word) other
+abbrev pub is_word : ℕ → String → Word → Option Word → Option Word
+is_word letters name word other = cond (eqb letters (letters_of 0 name)) (Some word) other
 
 -- the word by its letters
-unfoldable pub word_of : ℕ → Known
+unfoldable pub word_of : ℕ → Option Word
 word_of letters =
     is_word letters "apart" Apart
     (is_word letters "run" Run

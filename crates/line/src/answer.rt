@@ -1,4 +1,6 @@
 // A line as far as it was read, what was found in it on the way, and what it asks.
+ghost use Rattle.std.specs.Prelude.{◌≡◌};
+ghost use Rattle.line.specs.Next.{only};
 
 // The words that a question begins with.
 #[derive(Clone, Copy)]
@@ -36,10 +38,9 @@ pub enum Line {
 #[derive(Clone, Copy)]
 pub struct Counting {
     pub word: Word,
-    // Whether a digit was read.
-    pub some: bool,
-    pub count: u32,
-    // The first count of the line; 0 while it is being read itself.
+    // What was read of it: nothing before its first digit.
+    pub count: Option<u32>,
+    // The first count of the line; 0 while it is being read itself, as `to_count` has it.
     pub many: u32,
     // How many of the counts after the first are to be read, this one among them; 0 while the first is being read.
     pub left: u32,
@@ -49,7 +50,7 @@ pub struct Counting {
 #[derive(Clone, Copy)]
 pub struct Asking {
     pub word: Word,
-    // The first count; 0 where there is none.
+    // The first count; 0 where there is none, as `meaning_of` has it.
     pub count: u32,
     pub digits: u32,
     pub value: u64,
@@ -61,29 +62,36 @@ pub struct Reading {
     pub room: u32,
     // Whether a digit was read.
     pub some: bool,
-    // Whether the first digit of a byte was read, and which.
-    pub half: bool,
-    pub digit: u8,
+    // The first digit of a byte whose second is to be read.
+    pub half: Option<u8>,
 }
 
-// What ends with a byte of a line.
+// What can end with a byte of a line.
 #[derive(Clone, Copy)]
 pub enum Found {
-    Nothing,
     // The pattern of a double, or a count of a plan.
     Number(u64),
     // A byte of a file.
     Byte(u8),
 }
 
-// A line with one byte more.
+// What a line comes to with one byte more, or what it asks at its end; and the number that ends there.
 #[derive(Clone, Copy)]
-pub struct Step {
-    pub line: Line,
-    pub found: Found,
+pub struct Step<T> {
+    pub to: T,
+    pub found: Option<Found>,
 }
 
-// A word and its first count; 0 where there is none.
+impl<T> Step<T> {
+    // One with which no number ends.
+    pub(crate) fn only(to: T) -> Step<T>
+        ensures { result ≡ only to }
+    {
+        Step { to, found: None }
+    }
+}
+
+// A word and its first count; 0 where there is none, as `meaning_of` has it.
 #[derive(Clone, Copy)]
 pub struct Question {
     pub word: Word,
@@ -99,10 +107,4 @@ pub enum Asked {
     OfDoubles(Question),
     // A file is to be read, with so many doubles lent.
     OfFile(u32),
-}
-
-#[derive(Clone, Copy)]
-pub struct End {
-    pub asked: Asked,
-    pub found: Found,
 }

@@ -4,69 +4,50 @@ ghost use Rattle.line.specs.Next.{is_zero, counting_of, counted_of, after_it, to
 ghost use Rattle.line.specs.Word.{form_of};
 
 use crate::answer::{Asking, Counting, Found, Line, Reading, Step, Word};
-use crate::digit::{Digit, digit_of};
+use crate::digit::digit_of;
 use crate::word::{Form, form_of};
 
 const PATTERN_DIGITS: u32 = 16;
 
 // Whether a 0 was read.
-fn is_zero(c: Counting) -> bool
-    ensures { result ≡ is_zero c }
+fn is_zero(count: Option<u32>) -> bool
+    ensures { result ≡ is_zero count }
 {
-    if c.some {
-        return c.count == 0;
-    }
-    false
+    count.is_some_and(|n| n == 0)
 }
 
 // One digit more of a count. A 0 is the only count that begins with 0.
 pub fn counting(c: Counting, b: u8) -> Line
     ensures { result ≡ counting_of c b }
 {
-    let Digit::Value(d) = digit_of(b) else {
+    let Some(d) = digit_of(b) else {
         return Line::Unclear;
     };
-    if 9 < d {
+    if 9 < d || is_zero(c.count) {
         return Line::Unclear;
     }
-    if is_zero(c) {
+    let Ok(count) = u32::try_from(10 * (c.count.unwrap_or(0) as u64) + d as u64) else {
         return Line::Unclear;
-    }
-    let more = 10 * (c.count as u64) + d as u64;
-    if 0xFFFF_FFFF < more {
-        return Line::Unclear;
-    }
-    let word = c.word;
+    };
     Line::Counting(Counting {
-        word: word,
-        some: true,
-        count: more as u32,
-        many: c.many,
-        left: c.left,
+        count: Some(count),
+        ..c
     })
 }
 
 // A count is whole: the first says what follows, and any other is found.
-#[tactic(auto, using(crate::proofs::Laws::Next::counted_later))]
-pub fn counted(c: Counting) -> Step
+pub fn counted(c: Counting) -> Step<Line>
     ensures { result ≡ counted_of c }
 {
-    if !c.some {
-        return Step {
-            line: Line::Unclear,
-            found: Found::Nothing,
-        };
-    }
-    let word = c.word;
+    let Some(count) = c.count else {
+        return Step::only(Line::Unclear);
+    };
     if c.left == 0 {
-        return Step {
-            line: followed(word, c.count),
-            found: Found::Nothing,
-        };
+        return Step::only(followed(c.word, count));
     }
     Step {
-        line: listing(word, c.many, c.left - 1),
-        found: Found::Number(c.count as u64),
+        to: listing(c.word, c.many, c.left - 1),
+        found: Some(Found::Number(count as u64)),
     }
 }
 
@@ -75,14 +56,12 @@ fn followed(word: Word, count: u32) -> Line
     ensures { result ≡ after_it (form_of word) word count }
 {
     match form_of(word) {
-        Form::Doubles => asked(word, count),
-        Form::Counted => asked(word, count),
+        Form::Doubles | Form::Counted => asked(word, count),
         Form::Counts => listing(word, count, count),
         Form::File => Line::Reading(Reading {
             room: count,
             some: false,
-            half: false,
-            digit: 0,
+            half: None,
         }),
     }
 }
@@ -102,11 +81,10 @@ pub fn to_count(word: Word, many: u32, left: u32) -> Line
     ensures { result ≡ to_count word many left }
 {
     Line::Counting(Counting {
-        word: word,
-        some: false,
-        count: 0,
-        many: many,
-        left: left,
+        word,
+        count: None,
+        many,
+        left,
     })
 }
 
@@ -115,8 +93,8 @@ pub fn asked(word: Word, count: u32) -> Line
     ensures { result ≡ Line.Asking (record { word = word; count = count; digits = 0; value = 0 }) }
 {
     Line::Asking(Asking {
-        word: word,
-        count: count,
+        word,
+        count,
         digits: 0,
         value: 0,
     })
@@ -127,37 +105,28 @@ pub fn asked(word: Word, count: u32) -> Line
 pub fn asking(q: Asking, b: u8) -> Line
     ensures { result ≡ asking_of q b }
 {
-    let Digit::Value(d) = digit_of(b) else {
+    let Some(d) = digit_of(b) else {
         return Line::Unclear;
     };
-    if PATTERN_DIGITS <= q.digits {
+    if PATTERN_DIGITS <= q.digits || u64::MAX / 16 < q.value {
         return Line::Unclear;
     }
-    if u64::MAX / 16 < q.value {
-        return Line::Unclear;
-    }
-    let word = q.word;
     Line::Asking(Asking {
-        word: word,
-        count: q.count,
         digits: q.digits + 1,
         value: 16 * q.value + d as u64,
+        ..q
     })
 }
 
 // A double is whole.
-pub fn taken(q: Asking) -> Step
+pub fn taken(q: Asking) -> Step<Line>
     ensures { result ≡ taken_of q }
 {
     if q.digits != PATTERN_DIGITS {
-        return Step {
-            line: Line::Unclear,
-            found: Found::Nothing,
-        };
+        return Step::only(Line::Unclear);
     }
-    let word = q.word;
     Step {
-        line: asked(word, q.count),
-        found: Found::Number(q.value),
+        to: asked(q.word, q.count),
+        found: Some(Found::Number(q.value)),
     }
 }

@@ -3,39 +3,32 @@ ghost use Rattle.std.specs.Prelude.{◌≡◌, true};
 ghost use Rattle.line.specs.Next.{reading_of, file_of};
 
 use crate::answer::{Asked, Found, Line, Reading, Step};
-use crate::digit::{Digit, digit_of};
+use crate::digit::digit_of;
 
 // One digit more: the second of a byte has it found.
 #[tactic(auto, using(crate::proofs::Laws::Digit::digit_small))]
-pub fn reading(f: Reading, b: u8) -> Step
+pub fn reading(f: Reading, b: u8) -> Step<Line>
     ensures { result ≡ reading_of f b }
 {
-    let Digit::Value(d) = digit_of(b) else {
-        return Step {
-            line: Line::Unclear,
-            found: Found::Nothing,
-        };
+    let Some(d) = digit_of(b) else {
+        return Step::only(Line::Unclear);
     };
-    if f.half {
-        return Step {
-            line: read(f.room, false, d),
-            found: Found::Byte(16 * (f.digit % 16) + d),
-        };
-    }
-    Step {
-        line: read(f.room, true, d),
-        found: Found::Nothing,
+    match f.half {
+        None => Step::only(read(f.room, Some(d))),
+        Some(first) => Step {
+            to: read(f.room, None),
+            found: Some(Found::Byte(16 * (first % 16) + d)),
+        },
     }
 }
 
-fn read(room: u32, half: bool, digit: u8) -> Line
-    ensures { result ≡ Line.Reading (record { room = room; some = true; half = half; digit = digit }) }
+fn read(room: u32, half: Option<u8>) -> Line
+    ensures { result ≡ Line.Reading (record { room = room; some = true; half = half }) }
 {
     Line::Reading(Reading {
-        room: room,
+        room,
         some: true,
-        half: half,
-        digit: digit,
+        half,
     })
 }
 
@@ -43,11 +36,9 @@ fn read(room: u32, half: bool, digit: u8) -> Line
 pub fn filed(f: Reading) -> Asked
     ensures { result ≡ file_of f }
 {
-    if f.half {
-        return Asked::Unclear;
+    if f.some && f.half.is_none() {
+        Asked::OfFile(f.room)
+    } else {
+        Asked::Unclear
     }
-    if !f.some {
-        return Asked::Unclear;
-    }
-    Asked::OfFile(f.room)
 }

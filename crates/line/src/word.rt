@@ -5,12 +5,6 @@ ghost use Rattle.line.specs.Word.{word_of, form_of};
 
 use crate::answer::{Line, Word};
 
-#[derive(Clone, Copy)]
-pub enum Known {
-    Word(Word),
-    None,
-}
-
 // What follows a word: doubles; a count and doubles; a count, so many counts and doubles; or a count and a file's bytes.
 #[derive(Clone, Copy)]
 pub enum Form {
@@ -52,73 +46,46 @@ const SEVEN_LETTERS: u64 = 0xFF_FFFF_FFFF_FFFF;
 pub fn naming(letters: u64, b: u8) -> Line
     ensures { result ≡ naming_of letters b }
 {
-    if b == 0 {
-        return Line::Unclear;
-    }
-    if SEVEN_LETTERS < letters {
+    if b == 0 || SEVEN_LETTERS < letters {
         return Line::Unclear;
     }
     Line::Naming(256 * letters + b as u64)
 }
 
 #[tactic(auto, unfolding(crate::specs::Word::word_of))]
-pub fn word_of(letters: u64) -> Known
+pub fn word_of(letters: u64) -> Option<Word>
     ensures { result ≡ word_of letters }
 {
-    if letters == APART {
-        return Known::Word(Word::Apart);
+    match letters {
+        APART => Some(Word::Apart),
+        RUN => Some(Word::Run),
+        CEILING => Some(Word::Ceiling),
+        PLAIN => Some(Word::Plain),
+        SIDE => Some(Word::Side),
+        ZONE => Some(Word::Zone),
+        PLANE => Some(Word::Plane),
+        MEET => Some(Word::Meet),
+        WHY => Some(Word::Why),
+        PLAN => Some(Word::Plan),
+        WRITE => Some(Word::Write),
+        READ => Some(Word::Read),
+        _ => None,
     }
-    if letters == RUN {
-        return Known::Word(Word::Run);
-    }
-    if letters == CEILING {
-        return Known::Word(Word::Ceiling);
-    }
-    if letters == PLAIN {
-        return Known::Word(Word::Plain);
-    }
-    if letters == SIDE {
-        return Known::Word(Word::Side);
-    }
-    if letters == ZONE {
-        return Known::Word(Word::Zone);
-    }
-    if letters == PLANE {
-        return Known::Word(Word::Plane);
-    }
-    if letters == MEET {
-        return Known::Word(Word::Meet);
-    }
-    if letters == WHY {
-        return Known::Word(Word::Why);
-    }
-    if letters == PLAN {
-        return Known::Word(Word::Plan);
-    }
-    if letters == WRITE {
-        return Known::Word(Word::Write);
-    }
-    if letters == READ {
-        return Known::Word(Word::Read);
-    }
-    Known::None
 }
 
 pub fn form_of(word: Word) -> Form
     ensures { result ≡ form_of word }
 {
     match word {
-        Word::Apart => Form::Doubles,
-        Word::Run => Form::Counted,
-        Word::Ceiling => Form::Doubles,
-        Word::Plain => Form::Doubles,
-        Word::Side => Form::Doubles,
-        Word::Zone => Form::Doubles,
-        Word::Plane => Form::Doubles,
-        Word::Meet => Form::Doubles,
-        Word::Why => Form::Counted,
+        Word::Apart
+        | Word::Ceiling
+        | Word::Plain
+        | Word::Side
+        | Word::Zone
+        | Word::Plane
+        | Word::Meet => Form::Doubles,
+        Word::Run | Word::Why | Word::Write => Form::Counted,
         Word::Plan => Form::Counts,
-        Word::Write => Form::Counted,
         Word::Read => Form::File,
     }
 }

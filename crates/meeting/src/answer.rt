@@ -1,6 +1,5 @@
 // What this crate is asked of, and every answer.
 use point::Point;
-use refusal::Refusal;
 
 // The straight way from one point to another. The two may be equal.
 #[derive(Clone, Copy)]
@@ -19,11 +18,4 @@ pub enum Meeting {
     Crossing,
     // More than one point is.
     Overlapping,
-}
-
-#[derive(Clone, Copy)]
-pub enum Meet {
-    Of(Meeting),
-    // Refusal 3, place 0 to 7: x and y of the path's two points, then of the crease's.
-    Refused(Refusal),
 }

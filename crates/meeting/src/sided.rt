@@ -4,19 +4,15 @@ ghost use Rattle.point.specs.Accepted.{Accepted};
 ghost use Rattle.meeting.specs.Parts.{AcceptedPiece, SideIs, sides_by};
 
 use crate::answer::Piece;
-use geometry::answer::SideSign;
 use point::Point;
 use sum::answer::Sign;
 
-// The sign of p's side. No piece of accepted points is refused.
+// The sign of p's side. No piece of accepted points is refused. `reason` has it too: with its `requires`, `geometry` cannot make it public.
 pub fn side_of(a: Piece, p: Point) -> Sign
     requires { AcceptedPiece a × Accepted p }
     ensures { SideIs a p result }
 {
-    let SideSign::Of(s) = geometry::sign(a.from, a.to, p) else {
-        return Sign::Zero;
-    };
-    s
+    geometry::sign(a.from, a.to, p).unwrap()
 }
 
 // Two points by a line.
@@ -36,21 +32,11 @@ pub enum Sides {
 pub fn sides_of(u: Sign, v: Sign) -> Sides
     ensures { result ≡ sides_by u v }
 {
-    match u {
-        Sign::Zero => match v {
-            Sign::Zero => Sides::BothOn,
-            Sign::Plus => Sides::FirstOn,
-            Sign::Minus => Sides::FirstOn,
-        },
-        Sign::Plus => match v {
-            Sign::Zero => Sides::SecondOn,
-            Sign::Plus => Sides::OneSide,
-            Sign::Minus => Sides::Opposite,
-        },
-        Sign::Minus => match v {
-            Sign::Zero => Sides::SecondOn,
-            Sign::Plus => Sides::Opposite,
-            Sign::Minus => Sides::OneSide,
-        },
+    match (u, v) {
+        (Sign::Zero, Sign::Zero) => Sides::BothOn,
+        (Sign::Zero, Sign::Plus | Sign::Minus) => Sides::FirstOn,
+        (Sign::Plus | Sign::Minus, Sign::Zero) => Sides::SecondOn,
+        (Sign::Plus, Sign::Plus) | (Sign::Minus, Sign::Minus) => Sides::OneSide,
+        (Sign::Plus, Sign::Minus) | (Sign::Minus, Sign::Plus) => Sides::Opposite,
     }
 }

@@ -1,9 +1,9 @@
 -- Numbers of a track file: Track 1 and 2 of docs/RULES.md: how one is written, and what any bytes hold as one (Order 9).
-use Rattle.std.specs.Prelude.{ℕ, zero, suc, ◌+◌, ◌-◌, ◌*◌, ◌/◌, ◌%◌, ◌<◌, ◌≡◌, Bool, true, false, cond, ◌&&◌, List, [], ◌∷◌, eqb, ltb, length, drop, get_or}
-use Rattle.refusal.specs.Outcome.{Outcome, answers, refuses, ends_early, not_shortest}
+use Rattle.std.specs.Prelude.{ℕ, zero, suc, ◌+◌, ◌-◌, ◌*◌, ◌/◌, ◌%◌, ◌<◌, ◌≡◌, Bool, true, false, cond, ◌&&◌, eqb, ltb}
+use Rattle.std.specs.Prelude.{List, [], ◌∷◌, length, drop, get_or, Result}
+use Rattle.refusal.specs.declared.Refusal.{Refusal}
+use Rattle.refusal.specs.Outcome.{Outcome, answers, refuses, ends_early, not_shortest, outcome}
 use Rattle.number.specs.declared.answer.Number.{Number}
-use Rattle.number.specs.declared.answer.Numeral.{Numeral}
-use Rattle.number.specs.declared.answer.Numeral.TheVariants.{Whole, Refused}
 
 -- Track 1 and 2: the bytes of v: seven binary digits to each, the lowest first, the top bit set in all but the last, and no more of them
 -- than v needs; at most `more` and one
@@ -56,12 +56,11 @@ unfolding placed begins_with
 number_of bytes start = placed start (begins_with full false (drop start bytes))
 
 -- Answer 4: the rules' values, or number and place, for each case of the code's answer
-abbrev pub heard : Numeral → Outcome Number
-heard (Whole n) = answers n
-heard (Refused r) = refuses r.number r.place
+abbrev pub heard : Result Number Refusal → Outcome Number
+heard r = outcome (λ n. n) r
 
 -- Order 9, the promise: the number at an offset, or the refusal
-abbrev pub NumberSays : List ℕ → ℕ → Numeral → Type 0
+abbrev pub NumberSays : List ℕ → ℕ → Result Number Refusal → Type 0
 NumberSays bytes start r = heard r ≡ number_of bytes start
 
 -- Track 2, the promise: as many bytes as the shortest form has

@@ -1,9 +1,10 @@
 -- Accepted coordinates, and points of them: Numbers 6 of docs/RULES.md.
-use Rattle.std.specs.Prelude.{ℕ, ◌+◌, ◌-◌, ◌^◌, ◌≡◌, Bool, true, false, ◌&&◌, ◌||◌, cond, List, T, leb, eqb, Float}
+use Rattle.std.specs.Prelude.{ℕ, ◌+◌, ◌-◌, ◌^◌, ◌≡◌, Bool, true, false, ◌&&◌, ◌||◌, cond, List, T, leb, eqb, Float, Result}
 use Rattle.std.specs.Float.{nan, inf, fin, binary64}
 use Rattle.std.specs.Float.Ieee.{lt, neg, of_bits, fits}
 use Rattle.double.specs.Worth.{mag}
-use Rattle.refusal.specs.Outcome.{Outcome, not_accepted}
+use Rattle.refusal.specs.declared.Refusal.{Refusal}
+use Rattle.refusal.specs.Outcome.{Outcome, not_accepted, outcome}
 use Rattle.refusal.specs.Search.{passing_from}
 use Rattle.point.specs.declared.Point.{Point}
 
@@ -31,9 +32,17 @@ AcceptedSays x r = r ≡ accepted_of x
 abbrev pub accepting_from : {A : Type 0} → ℕ → List Float → A → Outcome A
 accepting_from i xs answer = passing_from accepted_of not_accepted i xs answer
 
+-- the promise: that refusal, or nothing
+abbrev pub AllAcceptedSays : List Float → Result Unit Refusal → Type 0
+AllAcceptedSays xs r = outcome (λ u. u) r ≡ accepting_from 0 xs tt
+
 -- x without its sign; a -0 stays as it is
 unfoldable pub magnitude_of : Float → Float
 magnitude_of x = cond (lt x (of_bits binary64 0)) (neg x) x
+
+-- the promise: of every double, infinities and not-a-number included
+abbrev pub MagnitudeSays : Float → Float → Type 0
+MagnitudeSays x r = r ≡ magnitude_of x
 
 -- ---- points
 

@@ -1,10 +1,13 @@
 -- Points with a height: which coordinates are accepted, and what four points are worth (docs/RULES.md, section Plane).
-use Rattle.std.specs.Prelude.{ℕ, ◌≡◌, Bool, true, T, ℤ, Float}
+use Rattle.std.specs.Prelude.{ℕ, ◌≡◌, Bool, true, T, ℤ, List, Float, Result}
 use Rattle.std.specs.Float.{binary64}
 use Rattle.std.specs.Float.Ieee.{fits}
 use Rattle.ground.specs.Space.{HighSpot}
 use Rattle.ground.specs.Space as space
 use Rattle.double.specs.Worth.{worth}
+use Rattle.refusal.specs.declared.Refusal.{Refusal}
+use Rattle.refusal.specs.Outcome.{Outcome, not_accepted, outcome}
+use Rattle.refusal.specs.Search.{passing_from}
 use Rattle.point.specs.Accepted.{accepted_within}
 use Rattle.point.specs.declared.HighPoint.{HighPoint}
 
@@ -18,6 +21,14 @@ high_accepted x = accepted_within high_reach x
 -- the promise: whether it is accepted
 abbrev pub AcceptedHighSays : Float → Bool → Type 0
 AcceptedHighSays x r = r ≡ high_accepted x
+
+-- Plane 2 and Refusals 3: at the first coordinate that is not accepted, of a list whose places begin at 0; otherwise the answer
+abbrev pub high_accepting : {A : Type 0} → List Float → A → Outcome A
+high_accepting xs answer = passing_from high_accepted not_accepted 0 xs answer
+
+-- the promise: that refusal, or nothing
+abbrev pub AllAcceptedHighSays : List Float → Result Unit Refusal → Type 0
+AllAcceptedHighSays xs r = outcome (λ u. u) r ≡ high_accepting xs tt
 
 -- all coordinates of a point are accepted
 pub record HighAccepted (p : HighPoint) : Type 0 where

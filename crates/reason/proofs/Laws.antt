@@ -1,5 +1,5 @@
 -- The laws of a reason, each file over those above it.
--- one edge: how it counts, and its corners, by comparisons of doubles and the sign
+-- one edge: its corners, by comparisons of doubles
 pub mod Crossing
 -- all edges: the entries of those that count, one by one
 pub mod Listing

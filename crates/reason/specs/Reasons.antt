@@ -1,16 +1,17 @@
 -- What an answer of `why` says of the zone and the point alone: the words of the laws about the call (Laws.Calls).
-use Rattle.std.specs.Prelude.{ℕ, ◌+◌, ◌/◌, ◌%◌, ◌<◌, ◌≡◌, cond, List, [], ◌∷◌, eqb, ℤ, pos, negsuc, ◌+ℤ◌, length, get_or, Float}
+use Rattle.std.specs.Prelude.{ℕ, ◌+◌, ◌/◌, ◌%◌, ◌<◌, ◌≡◌, cond, List, [], ◌∷◌, eqb, ℤ, pos, negsuc, ◌+ℤ◌, length, get_or, Float, Ok, Result}
 use Rattle.ground.specs.Edge.{edges_of}
 use Rattle.ground.specs.Zone.{tally_of}
 use Rattle.refusal.specs.Outcome.{no_room}
+use Rattle.refusal.specs.declared.Refusal.{Refusal}
 use Rattle.point.specs.declared.Point.{Point}
 use Rattle.point.specs.Accepted.{Accepted}
 use Rattle.point.specs.Spot.{spot_of}
 use Rattle.geometry.specs.Zone.{corners_of, Zoned}
 use Rattle.geometry.specs.Reasons.{ZoneRefusedAs, OffBorder}
 use Rattle.reason.specs.declared.answer.Counted.{Counted}
-use Rattle.reason.specs.declared.answer.Why.{Why}
 use Rattle.reason.specs.declared.answer.Why.TheVariants.{Inside, Outside}
+use Rattle.reason.specs.declared.answer.Why.{Why}
 
 -- how many edges count
 abbrev pub many_in : List Float → Point → ℕ
@@ -22,9 +23,9 @@ pub data WhyRefusedAs (xs : List Float) (p : Point) (room : ℕ) : ℕ → ℕ �
   short : Zoned xs (length xs / 2) → Accepted p → OffBorder xs p → room < many_in xs p → WhyRefusedAs xs p room no_room 0
 
 -- an answer off the border, inside or outside
-pub data Tells (c : Counted) : Why → Type 0 where
-  of_inside : Tells c (Inside c)
-  of_outside : Tells c (Outside c)
+pub data Tells (c : Counted) : Result Why Refusal → Type 0 where
+  of_inside : Tells c (Ok (Inside c))
+  of_outside : Tells c (Ok (Outside c))
 
 -- a byte stands among the first n of a list
 pub record Stands (bytes : List ℕ) (n : ℕ) (byte : ℕ) : Type 0 where

@@ -1,14 +1,15 @@
 -- Why a point has its place in a zone of corners that are lent as doubles; its refusals, and the promise.
-use Rattle.std.specs.Prelude.{ℕ, ◌+◌, ◌*◌, ◌≡◌, List, map, leb, length, Float}
+use Rattle.std.specs.Prelude.{ℕ, ◌+◌, ◌*◌, ◌≡◌, List, map, leb, length, Float, Result}
 use Rattle.ground.specs.Edge.{edges_of}
 use Rattle.ground.specs.Reason.{Turn, up, down, Entry, Reason, on_border, is_inside, is_outside, reason_of, entries_of}
-use Rattle.refusal.specs.Outcome.{Outcome, answers, refuses, no_room}
+use Rattle.refusal.specs.declared.Refusal.{Refusal}
+use Rattle.refusal.specs.Outcome.{Outcome, answers, no_room, outcome}
 use Rattle.refusal.specs.Judged.{require, also, filled}
 use Rattle.point.specs.declared.Point.{Point}
 use Rattle.point.specs.Spot.{spot_of}
 use Rattle.geometry.specs.Zone.{corners_of, zone_of}
+use Rattle.reason.specs.declared.answer.Why.TheVariants.{Border, Inside, Outside}
 use Rattle.reason.specs.declared.answer.Why.{Why}
-use Rattle.reason.specs.declared.answer.Why.TheVariants.{Border, Inside, Outside, Refused}
 
 -- Reason 1: the reason of what corners and point are worth
 unfoldable pub reason_in : List Float → Point → Reason (List Entry)
@@ -37,12 +38,15 @@ why_of corners p room =
 
 -- ---- the answer
 
--- Answer 4: the rules' values, or number and place, for each case of the code's answer
-unfoldable pub why_said : Why → Outcome (Reason ℕ)
-why_said (Border m) = answers (on_border m.edge m.corner)
-why_said (Inside c) = answers (is_inside c.total c.entries)
-why_said (Outside c) = answers (is_outside c.total c.entries)
-why_said (Refused r) = refuses r.number r.place
+-- Answer 4: the rules' values for each case of the code's answer
+abbrev pub why_value : Why → Reason ℕ
+why_value (Border m) = on_border m.edge m.corner
+why_value (Inside c) = is_inside c.total c.entries
+why_value (Outside c) = is_outside c.total c.entries
+
+-- or number and place
+unfoldable pub why_said : Result Why Refusal → Outcome (Reason ℕ)
+why_said r = outcome why_value r
 
 -- Reason 7: the number of entries is answered
 abbrev pub numbered : Reason (List Entry) → Reason ℕ
@@ -58,6 +62,6 @@ abbrev pub lent_after : Outcome (Reason (List Entry)) → List ℕ → List ℕ
 lent_after o lent = filled (also o (λ r. answers (map code (entries_of r)))) lent
 
 -- the promise of `why`: its answer, and every lent byte
-pub record WhySays (corners : List Float) (p : Point) (lent : List ℕ) (r : Why) (left : List ℕ) : Type 0 where
+pub record WhySays (corners : List Float) (p : Point) (lent : List ℕ) (r : Result Why Refusal) (left : List ℕ) : Type 0 where
   pub answer : why_said r ≡ number_said (why_of corners p (length lent))
   pub room : left ≡ lent_after (why_of corners p (length lent)) lent

@@ -1,5 +1,4 @@
 // Every answer of this crate.
-use refusal::Refusal;
 
 // The first edge that has the point.
 #[derive(Clone, Copy)]
@@ -18,11 +17,10 @@ pub struct Counted {
     pub entries: usize,
 }
 
+// Why a point has its place.
 #[derive(Clone, Copy)]
 pub enum Why {
     Border(Met),
     Inside(Counted),
     Outside(Counted),
-    // As the zone is refused, or 9 at place 0.
-    Refused(Refusal),
 }

@@ -1,90 +1,56 @@
 // One edge of a zone and a point, all accepted: how the edge counts, and whether the point is a corner of it.
-ghost use Rattle.std.specs.Prelude.{◌≡◌, cond};
-ghost use Rattle.ground.specs.Compare.{is_positive, is_negative};
+ghost use Rattle.std.specs.Prelude.{◌≡◌};
 ghost use Rattle.ground.specs.Reason.{is_corner};
 ghost use Rattle.point.specs.Accepted.{Accepted};
 ghost use Rattle.point.specs.Spot.{spot_of};
-ghost use Rattle.sum.specs.Total.{sign_number};
-ghost use Rattle.reason.specs.Parts.{edge_from, SideIs, crossing_of, same_by};
+ghost use Rattle.geometry.specs.Parts.{crossing_of};
+ghost use Rattle.reason.specs.Parts.{edge_from, Held, SideIs};
 
-use geometry::answer::SideSign;
+use geometry::answer::Crossing;
 use point::Point;
 use sum::answer::Sign;
 
-// How an edge counts.
-#[derive(Clone, Copy)]
-pub enum Crossing {
-    None,
-    Up,
-    Down,
-}
-
-// The sign of p's side. No accepted points are refused.
+// The sign of p's side. No accepted points are refused. `meeting` has it too: with its `requires`, `geometry` cannot make it public.
 fn side_of(a: Point, b: Point, p: Point) -> Sign
     requires { Accepted a × Accepted b × Accepted p }
     ensures { SideIs a b p result }
 {
-    let SideSign::Of(s) = geometry::sign(a, b, p) else {
-        return Sign::Zero;
-    };
-    s
+    geometry::sign(a, b, p).unwrap()
 }
 
-// Of an edge that goes up past a point.
-fn up_if_left(s: Sign) -> Crossing
-    ensures { result ≡ cond (is_positive (sign_number s)) Crossing.Up Crossing.None }
-{
-    match s {
-        Sign::Plus => Crossing::Up,
-        Sign::Zero => Crossing::None,
-        Sign::Minus => Crossing::None,
-    }
+// The two ends of an edge.
+#[derive(Clone, Copy)]
+pub struct Ends {
+    pub from: Point,
+    pub to: Point,
 }
 
-// Of an edge that goes down past a point.
-fn down_if_right(s: Sign) -> Crossing
-    ensures { result ≡ cond (is_negative (sign_number s)) Crossing.Down Crossing.None }
-{
-    match s {
-        Sign::Minus => Crossing::Down,
-        Sign::Zero => Crossing::None,
-        Sign::Plus => Crossing::None,
-    }
-}
-
-// How the edge from a to b counts. Heights are compared first: most edges are done with that. The lower end counts, and the upper one does not.
-pub fn crosses(a: Point, b: Point, p: Point) -> Crossing
-    requires { Accepted a × Accepted b × Accepted p }
-    ensures { result ≡ crossing_of (edge_from a b) (spot_of p) }
-{
-    if a.y <= p.y {
-        if p.y < b.y {
-            return up_if_left(side_of(a, b, p));
+impl Ends {
+    // How the edge counts. Heights are compared first: most edges are done with that. The lower end counts, and the upper one does not.
+    // `geometry` has it too, and cannot make it public: it has a `requires`.
+    pub fn crossing(self, p: Point) -> Crossing
+        requires { Held self.from × Held self.to × Held p }
+        ensures { result ≡ crossing_of (edge_from self.from self.to) (spot_of p) }
+    {
+        let Ends { from, to } = self;
+        if from.y <= p.y {
+            if p.y < to.y && matches!(side_of(from, to, p), Sign::Plus) {
+                Crossing::Up
+            } else {
+                Crossing::None
+            }
+        } else if to.y <= p.y && matches!(side_of(from, to, p), Sign::Minus) {
+            Crossing::Down
+        } else {
+            Crossing::None
         }
-        return Crossing::None;
     }
-    if b.y <= p.y {
-        return down_if_right(side_of(a, b, p));
-    }
-    Crossing::None
-}
 
-fn is_same(a: Point, b: Point) -> bool
-    ensures { result ≡ same_by a b }
-{
-    if a.x == b.x {
-        return a.y == b.y;
+    // Whether p is a corner of the edge.
+    pub fn has_corner(self, p: Point) -> bool
+        requires { Held self.from × Held self.to × Held p }
+        ensures { result ≡ is_corner (edge_from self.from self.to) (spot_of p) }
+    {
+        self.from == p || self.to == p
     }
-    false
-}
-
-// Whether p is a corner of the edge from a to b.
-pub fn is_corner(a: Point, b: Point, p: Point) -> bool
-    requires { Accepted a × Accepted b × Accepted p }
-    ensures { result ≡ is_corner (edge_from a b) (spot_of p) }
-{
-    if is_same(a, p) {
-        return true;
-    }
-    is_same(b, p)
 }

@@ -1,17 +1,16 @@
 // The edges of a zone that count, in order.
-ghost use Rattle.std.specs.Prelude.{◌≡◌, ◌+◌, ◌*◌, ◌<◌, ◌≤◌, length};
-ghost use Rattle.point.specs.Accepted.{Accepted};
-ghost use Rattle.geometry.specs.Zone.{most, corner_at, next_of, Zoned};
-ghost use Rattle.reason.specs.Parts.{with_edge, with_entry, ListedSays};
+ghost use Rattle.std.specs.Prelude.{◌≡◌, ◌+◌, ◌*◌, ◌/◌, ◌<◌, ◌≤◌, length, take};
+ghost use Rattle.geometry.specs.Zone.{most, corner_at};
+ghost use Rattle.reason.specs.Parts.{IsZone, Held, EndsSays, with_edge, ListedSays};
 
-use crate::crossing::{Crossing, crosses};
+use crate::crossing::Ends;
+use geometry::answer::Crossing;
 use geometry::limit::MOST;
+use geometry::next_of;
 use point::Point;
 
-// Room for an entry of every edge. Lent as an array: a reference to one is handed on with less to prove than a slice.
-pub type Entries = [u8; MOST];
-
-pub fn corner_at(corners: &[f64], k: usize) -> Point
+// `geometry` has it too, and cannot make it public: it has a `requires`.
+fn corner_at(corners: &[f64], k: usize) -> Point
     requires { (k < most) × (2 * k + 1 < length corners.now) }
     ensures { result ≡ corner_at corners.now k }
 {
@@ -21,56 +20,65 @@ pub fn corner_at(corners: &[f64], k: usize) -> Point
     }
 }
 
-// The corner after corner k of n.
-pub fn next_of(n: usize, k: usize) -> usize
-    requires { k < most }
-    ensures { result ≡ next_of n k }
+// The ends of edge k.
+pub fn ends_at(corners: &[f64], k: usize) -> Ends
+    requires { IsZone corners.now × (k < length corners.now / 2) }
+    ensures { EndsSays corners.now k result }
 {
-    if k + 1 < n { k + 1 } else { 0 }
+    Ends {
+        from: corner_at(corners, k),
+        to: corner_at(corners, next_of(corners.len() / 2, k)),
+    }
 }
 
-// How many edges count upward, and how many downward.
+// The edges that count, in order: how many upward and how many downward, and an entry for each.
 #[derive(Clone, Copy)]
-pub struct Counts {
+pub struct Listed {
     pub ups: usize,
     pub downs: usize,
+    pub entries: [u8; MOST],
 }
 
-// The counts with edge k, whose entry is put behind the others.
-fn with_edge(entries: &mut Entries, c: Counts, k: usize, crossing: Crossing) -> Counts
-    requires { (k < most) × (c.ups + c.downs ≤ k) × (length entries.old ≡ most) }
-    ensures { (result ≡ with_edge c crossing) × (entries.new ≡ with_entry entries.old c k crossing) }
-{
-    match crossing {
-        Crossing::None => c,
-        Crossing::Up => {
-            entries[c.ups + c.downs] = (2 * k) as u8;
-            Counts {
-                ups: c.ups + 1,
-                downs: c.downs,
+impl Listed {
+    pub fn entries(&self) -> &[u8]
+        requires { (self.now.ups + self.now.downs ≤ most) × (length self.now.entries ≡ most) }
+        ensures { result.now ≡ take (self.now.ups + self.now.downs) self.now.entries }
+    {
+        &self.entries[..self.ups + self.downs]
+    }
+
+    // With edge k, whose entry is put behind the others.
+    fn add(&mut self, k: usize, crossing: Crossing)
+        requires { (k < most) × (self.old.ups + self.old.downs ≤ k) × (length self.old.entries ≡ most) }
+        ensures { self.new ≡ with_edge self.old k crossing }
+    {
+        let at = self.ups + self.downs;
+        match crossing {
+            Crossing::None => {}
+            Crossing::Up => {
+                self.entries[at] = (2 * k) as u8;
+                self.ups += 1;
             }
-        }
-        Crossing::Down => {
-            entries[c.ups + c.downs] = (2 * k + 1) as u8;
-            Counts {
-                ups: c.ups,
-                downs: c.downs + 1,
+            Crossing::Down => {
+                self.entries[at] = (2 * k + 1) as u8;
+                self.downs += 1;
             }
         }
     }
 }
 
 // All edges, from the first to the last.
-pub fn list(corners: &[f64], n: usize, p: Point, entries: &mut Entries) -> Counts
-    requires { Zoned corners.now n × Accepted p × (length entries.old ≡ most) }
-    ensures { ListedSays corners.now p result entries.new }
+pub fn list(corners: &[f64], p: Point) -> Listed
+    requires { IsZone corners.now × Held p }
+    ensures { ListedSays corners.now p result }
 {
-    let mut c = Counts { ups: 0, downs: 0 };
-    let mut k: usize = 0;
-    while k < n {
-        let crossing = crosses(corner_at(corners, k), corner_at(corners, next_of(n, k)), p);
-        c = with_edge(entries, c, k, crossing);
-        k += 1;
+    let mut listed = Listed {
+        ups: 0,
+        downs: 0,
+        entries: [0; MOST],
+    };
+    for k in 0..corners.len() / 2 {
+        listed.add(k, ends_at(corners, k).crossing(p));
     }
-    c
+    listed
 }

@@ -1,6 +1,9 @@
 -- How a public call answers: with its values, or with a refusal's number and place (docs/RULES.md, sections Refusals and Order).
 -- Said once for the whole project.
-use Rattle.std.specs.Prelude.{ℕ, ◌≡◌}
+use Rattle.std.specs.Prelude.{ℕ, ◌≡◌, Result, Ok, Err}
+use Rattle.refusal.specs.declared.Kind.{Kind}
+use Rattle.refusal.specs.declared.Kind.TheVariants.{TooMany, NotFinite, NotAccepted, TooFewCorners, OddLength, EndsEarly, NotShortest, BytesAfter, NoRoom}
+use Rattle.refusal.specs.declared.Refusal.{Refusal}
 
 -- Order 1: the values of an answer, or a refusal's number and place
 pub data Outcome (A : Type 0) : Type 0 where
@@ -45,6 +48,33 @@ bytes_after = 8
 -- Refusals 9: lent space that is too short
 abbrev pub no_room : ℕ
 no_room = 9
+
+-- ---- what the code answers, in the table's numbers
+
+-- Refusals: the number of each kind
+abbrev pub kind_number : Kind → ℕ
+kind_number TooMany = too_many
+kind_number NotFinite = not_finite
+kind_number NotAccepted = not_accepted
+kind_number TooFewCorners = too_few_corners
+kind_number OddLength = odd_length
+kind_number EndsEarly = ends_early
+kind_number NotShortest = not_shortest
+kind_number BytesAfter = bytes_after
+kind_number NoRoom = no_room
+
+-- the promise of a kind's `number`
+abbrev pub NumberSays : Kind → ℕ → Type 0
+NumberSays k r = r ≡ kind_number k
+
+-- the promise of `refused`: this kind and this place
+abbrev pub RefusedSays : {A : Type 0} → Kind → ℕ → Result A Refusal → Type 0
+RefusedSays kind place r = r ≡ Err (record { kind = kind; place = place })
+
+-- Answer 4: the rules' values, or number and place, for what the code answers; `value` gives the rules' value for the code's
+abbrev pub outcome : {A B : Type 0} → (A → B) → Result A Refusal → Outcome B
+outcome value (Ok a) = answers (value a)
+outcome value (Err r) = refuses (kind_number r.kind) r.place
 
 -- ---- what a promise commits to
 

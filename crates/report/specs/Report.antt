@@ -1,13 +1,13 @@
 -- The report of releases: Desk 2 and 10 and Order 10 of docs/RULES.md.
-use Rattle.std.specs.Prelude.{ℕ, ◌/◌, ◌≡◌, List, [], ◌∷◌, leb, length, Float}
-use Rattle.refusal.specs.Outcome.{Outcome, answers, refuses, no_room}
+use Rattle.std.specs.Prelude.{ℕ, ◌/◌, ◌≡◌, List, [], ◌∷◌, leb, length, Float, Err, Ok, Result}
+use Rattle.refusal.specs.Outcome.{Outcome, answers, refuses, no_room, kind_number}
 use Rattle.point.specs.declared.Point.{Point}
 use Rattle.geometry.specs.Zone.{points_of, place_in}
 use Rattle.ground.specs.Zone.{place_number}
 use Rattle.refusal.specs.Judged.{require, also, filled}
+use Rattle.report.specs.declared.answer.ReportRefusal.TheVariants.{Zone as RefusedZone, Releases as RefusedReleases}
+use Rattle.report.specs.declared.answer.ReportRefusal.{ReportRefusal}
 use Rattle.report.specs.Zone.{file_holds, zone_file_of}
-use Rattle.report.specs.declared.answer.Report.{Report}
-use Rattle.report.specs.declared.answer.Report.TheVariants.{Releases, RefusedZone, RefusedReleases}
 
 -- Desk 10: the code of a release: 0 outside, 1 border, 2 inside
 unfoldable pub code_of : List Float → Point → ℕ
@@ -62,16 +62,16 @@ abbrev pub lent_after : Told (List ℕ) → List ℕ → List ℕ
 lent_after told lent = filled (outcome_of told) lent
 
 -- Answer 4: the rules' values, or number and place, for each case of the code's answer
-abbrev pub report_said : Report → Told ℕ
-report_said (Releases n) = releases n
-report_said (RefusedZone r) = refused_zone r.number r.place
-report_said (RefusedReleases r) = refused_releases r.number r.place
+abbrev pub report_said : Result ℕ ReportRefusal → Told ℕ
+report_said (Ok n) = releases n
+report_said (Err (RefusedZone r)) = refused_zone (kind_number r.kind) r.place
+report_said (Err (RefusedReleases r)) = refused_releases (kind_number r.kind) r.place
 
 -- a call of this outcome: its answer, and every lent byte
-pub record Tells (told : Told (List ℕ)) (lent : List ℕ) (r : Report) (left : List ℕ) : Type 0 where
+pub record Tells (told : Told (List ℕ)) (lent : List ℕ) (r : Result ℕ ReportRefusal) (left : List ℕ) : Type 0 where
   pub answer : report_said r ≡ number_said told
   pub bytes : left ≡ lent_after told lent
 
 -- the promise
-abbrev pub ReportSays : List ℕ → List ℕ → List ℕ → Report → List ℕ → Type 0
+abbrev pub ReportSays : List ℕ → List ℕ → List ℕ → Result ℕ ReportRefusal → List ℕ → Type 0
 ReportSays zone bytes lent r left = Tells (report_of zone bytes (length lent)) lent r left

@@ -1,12 +1,11 @@
 -- The zone, judged from the bytes of its file: Desk 9 and Order 10 of docs/RULES.md.
-use Rattle.std.specs.Prelude.{ℕ, ◌*◌, ◌/◌, ◌≡◌, List, leb, length, Float}
-use Rattle.refusal.specs.Outcome.{Outcome, answers, refuses, too_many, too_few_corners}
-use Rattle.geometry.specs.Zone.{fewest, most}
+use Rattle.std.specs.Prelude.{ℕ, ◌*◌, ◌/◌, ◌≡◌, List, leb, length, Float, Result}
+use Rattle.refusal.specs.declared.Refusal.{Refusal}
+use Rattle.refusal.specs.Outcome.{Outcome, answers, too_many, too_few_corners, outcome}
 use Rattle.refusal.specs.Judged.{require, also}
+use Rattle.geometry.specs.Zone.{fewest, most}
 use Rattle.track.specs.File.{limit}
 use Rattle.track.specs.Read.{read_of, points_said}
-use Rattle.report.specs.declared.answer.Judged.{Judged}
-use Rattle.report.specs.declared.answer.Judged.TheVariants.{Corners, Refused}
 
 -- what a file holds, read into room for the most points, two entries for each (Track 11)
 abbrev pub file_holds : List ℕ → Outcome (List Float)
@@ -21,10 +20,9 @@ zone_file_of bytes =
     answers corners)))
 
 -- Answer 4: the rules' values, or number and place, for each case of the code's answer
-abbrev pub judged_said : Judged → Outcome ℕ
-judged_said (Corners n) = answers n
-judged_said (Refused r) = refuses r.number r.place
+abbrev pub judged_said : Result ℕ Refusal → Outcome ℕ
+judged_said r = outcome (λ n. n) r
 
 -- Desk 9, the promise: the number of corners, or the refusal
-abbrev pub JudgeSays : List ℕ → Judged → Type 0
+abbrev pub JudgeSays : List ℕ → Result ℕ Refusal → Type 0
 JudgeSays zone r = judged_said r ≡ points_said (zone_file_of zone)

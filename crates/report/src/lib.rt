@@ -6,7 +6,6 @@
 pub mod answer;
 mod places;
 mod reports;
-mod room;
 mod zones;
 
 pub use reports::report;

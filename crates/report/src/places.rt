@@ -1,15 +1,16 @@
 // The codes of places.
-ghost use Rattle.std.specs.Prelude.{◌≡◌, ◌/◌, ◌≤◌, length};
+ghost use Rattle.std.specs.Prelude.{◌≡◌, ◌*◌, length};
 ghost use Rattle.point.specs.Accepted.{Accepted};
-ghost use Rattle.geometry.specs.Zone.{place_said};
+ghost use Rattle.geometry.specs.Zone.{place_said, points_of};
 ghost use Rattle.ground.specs.Zone.{place_number};
 ghost use Rattle.track.specs.Write.{AllAccepted};
-ghost use Rattle.report.specs.Report.{code_of};
-ghost use Rattle.report.specs.Parts.{IsZone, codes_then};
+ghost use Rattle.report.specs.Report.{code_of, codes_of};
+ghost use Rattle.report.specs.Parts.{IsZone};
 
-use geometry::answer::{Place, Zone};
+use geometry::answer::Place;
 use point::Point;
 
+// The codes are bytes, as they stand in the bytes that are lent to `report`.
 const OUTSIDE: u8 = 0;
 
 const BORDER: u8 = 1;
@@ -31,25 +32,20 @@ fn code_at(corners: &[f64], p: Point) -> u8
     requires { IsZone corners.now × Accepted p }
     ensures { result ≡ code_of corners.now p }
 {
-    match geometry::zone(corners, p) {
-        Zone::At(place) => code(place),
-        Zone::Refused(_) => OUTSIDE,
-    }
+    code(geometry::zone(corners, p).unwrap())
 }
 
-// Writes the code of each release of a list x, y, x, y ..; later bytes stay.
+// Writes the code of each release of a list x, y, x, y ..
 pub fn put_codes(corners: &[f64], releases: &[f64], codes: &mut [u8])
-    requires { IsZone corners.now × AllAccepted releases.now × (length releases.now / 2 ≤ length codes.old) }
-    ensures { codes.new ≡ codes_then corners.now releases.now codes.old }
+    requires { IsZone corners.now × AllAccepted releases.now × (length releases.now ≡ 2 * length codes.old) }
+    ensures { codes.new ≡ codes_of corners.now (points_of releases.now) }
 {
-    let n = releases.len() / 2;
-    let mut i: usize = 0;
-    while i < n {
+    // No `zip` with the releases: a proof knows no entry that is written through one.
+    for (i, code) in codes.iter_mut().enumerate() {
         let p = Point {
             x: releases[2 * i],
             y: releases[2 * i + 1],
         };
-        codes[i] = code_at(corners, p);
-        i += 1;
+        *code = code_at(corners, p);
     }
 }

@@ -1,46 +1,43 @@
 -- The desk's whole output, from what could be read of its two files: Desk 2 to 6 of docs/RULES.md. That these are the bytes which the system
 -- gave, and that the text is what it was handed, no contract can say (docs/GAPS.md).
-use Rattle.std.specs.Prelude.{ℕ, Bool, true, false, List, Float, take}
+use Rattle.std.specs.Prelude.{ℕ, Bool, true, false, List, Float, None, Some}
+use Rattle.std.specs.Option.{option_copied}
+use Rattle.std.specs.declared.option.Option.{Option}
 use Rattle.refusal.specs.Outcome.{Outcome, answers, refuses}
 use Rattle.track.specs.File.{limit}
 use Rattle.report.specs.Zone.{zone_file_of}
 use Rattle.report.specs.Report.{refused_zone, of_releases, releases_of}
 use Rattle.serve.specs.Text.{ascii, text_of}
-use Rattle.system.specs.declared.files.Held.{Held}
-use Rattle.system.specs.declared.files.Held.TheVariants.{Bytes, Unreadable}
+use Rattle.serve.specs.declared.files.TwoFiles.{TwoFiles}
 
--- what could be read of a file: its bytes, or nothing where it can not be opened or reading it failed
-pub data Found : Type 0 where
-  bytes : List ℕ → Found
-  nothing : Found
-
--- by the buffer that it was read into
-abbrev pub found : Held → List ℕ → Found
-found (Bytes n) buffer = bytes (take n buffer)
-found Unreadable buffer = nothing
+-- Of a file there is what could be read: some bytes, or none at all where it can not be opened or reading it failed.
 
 -- Desk 4 to 6: of the releases in a good zone
-abbrev pub releases_printed : Found → List Float → List ℕ
-releases_printed nothing corners = ascii "unreadable releases\n"
-releases_printed (bytes file) corners = text_of (of_releases (releases_of corners file limit))
+abbrev pub releases_printed : Option (List ℕ) → List Float → List ℕ
+releases_printed None corners = ascii "unreadable releases\n"
+releases_printed (Some file) corners = text_of (of_releases (releases_of corners file limit))
 
 -- Desk 2 and 3: the zone is judged first, and a refused one is told whatever the releases are
-abbrev pub zone_printed : Outcome (List Float) → Found → List ℕ
+abbrev pub zone_printed : Outcome (List Float) → Option (List ℕ) → List ℕ
 zone_printed (answers corners) releases = releases_printed releases corners
 zone_printed (refuses number place) releases = text_of (refused_zone number place)
 
 -- Desk 2 to 6: all that is printed, for what was found of the zone's file and of the releases'
-unfoldable pub printed : Found → Found → List ℕ
+unfoldable pub printed : Option (List ℕ) → Option (List ℕ) → List ℕ
 unfolding zone_file_of releases_of text_of
-printed nothing releases = ascii "unreadable zone\n"
-printed (bytes zone) releases = zone_printed (zone_file_of zone) releases
+printed None releases = ascii "unreadable zone\n"
+printed (Some zone) releases = zone_printed (zone_file_of zone) releases
+
+-- as the program has them
+abbrev pub printed_of : TwoFiles → List ℕ
+printed_of files = printed (option_copied files.zone) (option_copied files.releases)
 
 abbrev pub is_answer : {A : Type 0} → Outcome A → Bool
 is_answer (answers a) = true
 is_answer (refuses number place) = false
 
 -- Desk 2: the release file is opened only where the zone is good
-unfoldable pub is_good : Found → Bool
+unfoldable pub is_good : Option (List ℕ) → Bool
 unfolding zone_file_of
-is_good nothing = false
-is_good (bytes zone) = is_answer (zone_file_of zone)
+is_good None = false
+is_good (Some zone) = is_answer (zone_file_of zone)

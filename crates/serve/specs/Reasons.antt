@@ -1,6 +1,8 @@
--- Why each release has its place, in words for the telephone: Reason 8 of docs/RULES.md. In order: an edge that counts; the total; a reason; the pieces
--- that are printed one after the other.
-use Rattle.std.specs.Prelude.{ℕ, suc, ◌/◌, true, false, List, [], ◌∷◌, ◌++◌, ℤ, pos, negsuc, length, Float}
+-- Why each release has its place, in words for the telephone: Reason 8 of docs/RULES.md. In order: an edge that counts; the total; a reason; the
+-- pieces that are printed one after the other.
+use Rattle.std.specs.Prelude.{ℕ, suc, ◌/◌, true, false, List, [], ◌∷◌, ◌++◌, ℤ, pos, negsuc, length, Float, None, Some}
+use Rattle.std.specs.Option.{option_copied}
+use Rattle.std.specs.declared.option.Option.{Option}
 use Rattle.refusal.specs.Outcome.{Outcome, answers, refuses}
 use Rattle.ground.specs.Reason.{Turn, up, down, Entry, Reason, on_border, is_inside, is_outside}
 use Rattle.point.specs.declared.Point.{Point}
@@ -8,7 +10,8 @@ use Rattle.geometry.specs.Zone.{points_of}
 use Rattle.reason.specs.Why.{reason_in}
 use Rattle.report.specs.Zone.{file_holds, zone_file_of}
 use Rattle.serve.specs.Text.{ascii, decimal, header_text}
-use Rattle.serve.specs.Printed.{Found, bytes, nothing, printed}
+use Rattle.serve.specs.Printed.{printed}
+use Rattle.serve.specs.declared.files.TwoFiles.{TwoFiles}
 
 -- Reason 8: an edge that counts, and its turn
 abbrev pub turn_text : Turn → List ℕ
@@ -63,8 +66,12 @@ explained_as (answers corners) (refuses number place) other = other ∷ []
 explained_as (refuses number place) points other = other ∷ []
 
 -- Reason 8: all that is printed, piece by piece, for what was found of the two files; otherwise the desk's own text
-unfoldable pub explained : Found → Found → List (List ℕ)
+unfoldable pub explained : Option (List ℕ) → Option (List ℕ) → List (List ℕ)
 unfolding zone_file_of reason_lines printed
-explained (bytes zone) (bytes file) = explained_as (zone_file_of zone) (file_holds file) (printed (bytes zone) (bytes file))
-explained (bytes zone) nothing = printed (bytes zone) nothing ∷ []
-explained nothing releases = printed nothing releases ∷ []
+explained (Some zone) (Some file) = explained_as (zone_file_of zone) (file_holds file) (printed (Some zone) (Some file))
+explained (Some zone) None = printed (Some zone) None ∷ []
+explained None releases = printed None releases ∷ []
+
+-- as the program has them
+abbrev pub explained_of : TwoFiles → List (List ℕ)
+explained_of files = explained (option_copied files.zone) (option_copied files.releases)

@@ -6,265 +6,143 @@ mod points;
 mod reasons;
 mod text;
 
+ghost use Rattle.std.specs.Option.{option_copied};
 ghost use Rattle.std.specs.Prelude.{◌≡◌, true, false, [], ◌∷◌, ◌/◌, length, get_or};
-ghost use Rattle.refusal.specs.Outcome.{answers};
 ghost use Rattle.point.specs.Accepted.{Accepted};
 ghost use Rattle.geometry.specs.Zone.{Zoned};
 ghost use Rattle.serve.specs.Text.{header_text};
-ghost use Rattle.serve.specs.Printed.{found, printed, is_good};
-ghost use Rattle.serve.specs.Reasons.{reason_line, explained};
-ghost use Rattle.serve.specs.Parts.{points_found, Explains};
+ghost use Rattle.serve.specs.Printed.{printed_of, is_good};
+ghost use Rattle.serve.specs.Reasons.{reason_line, explained_of};
+ghost use Rattle.serve.specs.Parts.{Explains};
 
+use files::{TwoFiles, file_of};
 use point::Point;
-use points::{Listed, points_of};
+use points::points_of;
 use std::fs::Files;
 use std::io::{Eprint, Print};
-use system::files::Held;
-use text::TEXT;
+use text::Text;
+use track::limit::COORDINATES;
 
-// Reads zone.trk, then release.trk, of the working folder, and prints the places of the releases, or why there are none.
-// The zone is judged before the release file is opened.
+// Prints the places of the releases, or why there are none.
 pub fn desk<R: Files + Print + Eprint>(rt: &R) {
-    let mut bytes = files::room();
-    let zone = system::files::bytes_of(rt, "zone.trk", &mut bytes);
-    if text::is_good(zone, &bytes) {
-        return opened(rt, zone, &bytes);
-    }
-    unopened(rt, zone, &bytes)
+    read_then(rt, |files| files.tell(rt))
 }
 
-// A good zone is told of with the releases.
-fn opened<R: Files + Print + Eprint>(rt: &R, zone: Held, zone_bytes: &[u8]) {
-    let mut bytes = files::room();
-    let releases = system::files::bytes_of(rt, "release.trk", &mut bytes);
-    tell(rt, zone, zone_bytes, releases, &bytes);
-}
-
-// Of any other zone the same is told whatever the releases are.
-fn unopened<R: Print + Eprint>(rt: &R, zone: Held, zone_bytes: &[u8])
-    requires { is_good (found zone zone_bytes.now) ≡ false }
-{
-    tell(rt, zone, zone_bytes, Held::Unreadable, zone_bytes);
-}
-
-fn tell<R: Print + Eprint>(
-    rt: &R,
-    zone: Held,
-    zone_bytes: &[u8],
-    releases: Held,
-    release_bytes: &[u8],
-) {
-    let mut out = [0u8; TEXT];
-    let n = text::text_of(zone, zone_bytes, releases, release_bytes, &mut out);
-    print(
-        rt,
-        zone,
-        zone_bytes,
-        releases,
-        release_bytes,
-        files::first(&out, n),
-    );
-}
-
-// Prints the text of what was found, which is asked of its caller.
-fn print<R: Print + Eprint>(
-    rt: &R,
-    zone: Held,
-    zone_bytes: &[u8],
-    releases: Held,
-    release_bytes: &[u8],
-    text: &[u8],
-)
-    requires { text.now ≡ printed (found zone zone_bytes.now) (found releases release_bytes.now) }
-{
-    system::write(rt, text);
-}
-
-// Reads the two files likewise, and prints why each release has its place, after the desk's header; or, as the desk does, why there are no places.
+// Prints why each release has its place, after the desk's header; or, as the desk does, why there are no places.
 pub fn why<R: Files + Print + Eprint>(rt: &R) {
-    let mut zone_bytes = files::room();
-    let zone = system::files::bytes_of(rt, "zone.trk", &mut zone_bytes);
-    if text::is_good(zone, &zone_bytes) {
-        return asked(rt, zone, &zone_bytes);
+    read_then(rt, |files| files.explain(rt))
+}
+
+// Reads zone.trk, then release.trk, of the working folder, and does this with them. The zone is judged before the release file is opened.
+fn read_then<R: Files + Print + Eprint, F: FnOnce(TwoFiles)>(rt: &R, then: F)
+    requires { (files : TwoFiles) → is_good (option_copied files.zone) ≡ true → F.pre then files }
+{
+    let mut room = files::room();
+    let zone = file_of(rt, "zone.trk", &mut room);
+    if text::is_good(zone) {
+        let mut room = files::room();
+        let releases = file_of(rt, "release.trk", &mut room);
+        return then(TwoFiles { zone, releases });
     }
-    unopened(rt, zone, &zone_bytes)
+    unopened(rt, zone)
 }
 
-// A good zone is explained with the releases.
-fn asked<R: Files + Print + Eprint>(rt: &R, zone: Held, zone_bytes: &[u8])
-    requires { is_good (found zone zone_bytes.now) ≡ true }
+// Of a zone that is not good the same is told whatever the releases are.
+fn unopened<R: Print + Eprint>(rt: &R, zone: Option<&[u8]>)
+    requires { is_good (option_copied zone) ≡ false }
 {
-    let mut bytes = files::room();
-    let releases = system::files::bytes_of(rt, "release.trk", &mut bytes);
-    explain(rt, zone, zone_bytes, releases, &bytes);
+    let files = TwoFiles {
+        zone,
+        releases: None,
+    };
+    files.tell(rt)
 }
 
-// Reads the corners of a good zone.
-fn explain<R: Print + Eprint>(
-    rt: &R,
-    zone: Held,
-    zone_bytes: &[u8],
-    releases: Held,
-    release_bytes: &[u8],
-)
-    requires { is_good (found zone zone_bytes.now) ≡ true }
-{
-    let mut list = points::room();
-    match points_of(zone, zone_bytes, &mut list) {
-        Listed::Points(n) => explain_in(
-            rt,
-            zone,
-            zone_bytes,
-            releases,
-            release_bytes,
-            &list[..2 * n],
-        ),
-        Listed::None => unexplained(rt, zone, zone_bytes, releases, release_bytes),
+impl TwoFiles<'_> {
+    fn tell<R: Print + Eprint>(self, rt: &R) {
+        let mut text = Text::new();
+        text::text_of(self, &mut text);
+        self.print(rt, text.bytes())
     }
-}
 
-// Reads the releases, in a good zone of these corners.
-fn explain_in<R: Print + Eprint>(
-    rt: &R,
-    zone: Held,
-    zone_bytes: &[u8],
-    releases: Held,
-    release_bytes: &[u8],
-    corners: &[f64],
-)
-    requires { (is_good (found zone zone_bytes.now) ≡ true) × (points_found (found zone zone_bytes.now) ≡ answers corners.now) }
-{
-    let mut list = points::room();
-    match points_of(releases, release_bytes, &mut list) {
-        Listed::Points(n) => {
-            explain_all(
-                rt,
-                zone,
-                zone_bytes,
-                releases,
-                release_bytes,
-                corners,
-                &list[..2 * n],
-            )
-        }
-        Listed::None => unexplained(rt, zone, zone_bytes, releases, release_bytes),
+    // Prints the text of what was found, which is asked of its caller.
+    fn print<R: Print + Eprint>(self, rt: &R, text: &[u8])
+        requires { text.now ≡ printed_of self }
+    {
+        system::write(rt, text);
     }
-}
 
-// Where there is no place to explain, the desk's own text is all.
-fn unexplained<R: Print + Eprint>(
-    rt: &R,
-    zone: Held,
-    zone_bytes: &[u8],
-    releases: Held,
-    release_bytes: &[u8],
-)
-    requires { explained (found zone zone_bytes.now) (found releases release_bytes.now)
-        ≡ printed (found zone zone_bytes.now) (found releases release_bytes.now) ∷ [] }
-{
-    tell(rt, zone, zone_bytes, releases, release_bytes);
-}
-
-// The header, and then a line for each release, until one is not written.
-fn explain_all<R: Print + Eprint>(
-    rt: &R,
-    zone: Held,
-    zone_bytes: &[u8],
-    releases: Held,
-    release_bytes: &[u8],
-    corners: &[f64],
-    points: &[f64],
-)
-    requires { Explains (found zone zone_bytes.now) (found releases release_bytes.now) corners.now points.now }
-{
-    let n = points.len() / 2;
-    if !print_header(rt, zone, zone_bytes, releases, release_bytes, n) {
-        return;
-    }
-    let mut i: usize = 0;
-    while i < n {
-        let p = Point {
-            x: points[2 * i],
-            y: points[2 * i + 1],
+    // Reads the corners of a good zone, and the releases.
+    fn explain<R: Print + Eprint>(self, rt: &R)
+        requires { is_good (option_copied self.zone) ≡ true }
+    {
+        let mut room = [0.0; COORDINATES];
+        let Some(corners) = points_of(self.zone, &mut room) else {
+            return self.unexplained(rt);
         };
-        if !print_reason(
-            rt,
-            zone,
-            zone_bytes,
-            releases,
-            release_bytes,
-            i + 1,
-            corners,
-            p,
-        ) {
+        let mut room = [0.0; COORDINATES];
+        let Some(points) = points_of(self.releases, &mut room) else {
+            return self.unexplained(rt);
+        };
+        self.explain_all(rt, corners, points)
+    }
+
+    // Where there is no place to explain, the desk's own text is all.
+    fn unexplained<R: Print + Eprint>(self, rt: &R)
+        requires { explained_of self ≡ printed_of self ∷ [] }
+    {
+        self.tell(rt)
+    }
+
+    // The header, and then a line for each release, until one is not written.
+    fn explain_all<R: Print + Eprint>(self, rt: &R, corners: &[f64], points: &[f64])
+        requires { Explains self corners.now points.now }
+    {
+        let many = points.len() / 2;
+        let mut text = Text::new();
+        if !self.print_header(rt, &mut text, many) {
             return;
         }
-        i += 1;
+        // By number, which is the line's: with the two entries of each chunk the proof is longer.
+        for i in 0..many {
+            let p = Point {
+                x: points[2 * i],
+                y: points[2 * i + 1],
+            };
+            if !self.print_reason(rt, &mut text, i + 1, corners, p) {
+                return;
+            }
+        }
     }
-}
 
-// Prints the desk's header, which is the first piece.
-fn print_header<R: Print + Eprint>(
-    rt: &R,
-    zone: Held,
-    zone_bytes: &[u8],
-    releases: Held,
-    release_bytes: &[u8],
-    many: usize,
-) -> bool
-    requires { header_text many ≡ get_or (explained (found zone zone_bytes.now) (found releases release_bytes.now)) 0 [] }
-{
-    let mut out = [0u8; TEXT];
-    let n = text::put_header(&mut out, many);
-    print_piece(
-        rt,
-        zone,
-        zone_bytes,
-        releases,
-        release_bytes,
-        0,
-        files::first(&out, n),
-    )
-}
+    // Prints the desk's header, which is the first piece.
+    fn print_header<R: Print + Eprint>(self, rt: &R, text: &mut Text, many: usize) -> bool
+        requires { header_text many ≡ get_or (explained_of self) 0 [] }
+    {
+        text.set_header(many);
+        self.print_piece(rt, 0, text.bytes())
+    }
 
-// Prints the line of a release, which stands behind the header and those before it.
-fn print_reason<R: Print + Eprint>(
-    rt: &R,
-    zone: Held,
-    zone_bytes: &[u8],
-    releases: Held,
-    release_bytes: &[u8],
-    release: usize,
-    corners: &[f64],
-    p: Point,
-) -> bool
-    requires { Zoned corners.now (length corners.now / 2) × Accepted p
-        × (reason_line release corners.now p ≡ get_or (explained (found zone zone_bytes.now) (found releases release_bytes.now)) release []) }
-{
-    let mut out = [0u8; TEXT];
-    let n = reasons::line_of(release, corners, p, &mut out);
-    print_piece(
-        rt,
-        zone,
-        zone_bytes,
-        releases,
-        release_bytes,
-        release,
-        files::first(&out, n),
-    )
-}
+    // Prints the line of a release, which stands behind the header and those before it.
+    fn print_reason<R: Print + Eprint>(
+        self,
+        rt: &R,
+        text: &mut Text,
+        release: usize,
+        corners: &[f64],
+        p: Point,
+    ) -> bool
+        requires { Zoned corners.now (length corners.now / 2) × Accepted p
+            × (reason_line release corners.now p ≡ get_or (explained_of self) release []) }
+    {
+        text.set_line(release, corners, p);
+        self.print_piece(rt, release, text.bytes())
+    }
 
-// Prints one piece of what is printed, and answers whether it was written: nothing may follow one that was not.
-fn print_piece<R: Print + Eprint>(
-    rt: &R,
-    zone: Held,
-    zone_bytes: &[u8],
-    releases: Held,
-    release_bytes: &[u8],
-    i: usize,
-    text: &[u8],
-) -> bool
-    requires { text.now ≡ get_or (explained (found zone zone_bytes.now) (found releases release_bytes.now)) i [] }
-{
-    system::write(rt, text)
+    // Prints one piece of what is printed, and answers whether it was written: nothing may follow one that was not.
+    fn print_piece<R: Print + Eprint>(self, rt: &R, i: usize, text: &[u8]) -> bool
+        requires { text.now ≡ get_or (explained_of self) i [] }
+    {
+        system::write(rt, text)
+    }
 }

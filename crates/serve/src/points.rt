@@ -1,47 +1,15 @@
 // The points of a file that was read.
-ghost use Rattle.std.specs.Prelude.{◌≡◌, ◌*◌, length};
+ghost use Rattle.std.specs.Option.{option_copied};
+ghost use Rattle.std.specs.Prelude.{◌≡◌, ◌*◌, length, Some};
 ghost use Rattle.track.specs.File.{limit};
-ghost use Rattle.serve.specs.Printed.{bytes as read, found};
 ghost use Rattle.serve.specs.Parts.{ListedSays};
 
-use crate::files::first;
-use system::files::Held;
-use track::answer::Reading;
 use track::limit::COORDINATES;
 
-#[derive(Clone, Copy)]
-pub enum Listed {
-    // How many points stand at the start of the list.
-    Points(usize),
-    // The file can not be read, or is refused.
-    None,
-}
-
-// Memory in which the reader always has room.
-pub fn room() -> [f64; COORDINATES]
-    ensures { 2 * limit ≡ length result }
+// The points of a file, in lent memory in which the reader always has room; none of one that can not be read, or is refused.
+pub fn points_of<'l>(file: Option<&[u8]>, list: &'l mut [f64; COORDINATES]) -> Option<&'l [f64]>
+    ensures { ListedSays (option_copied file.entry) (option_copied result) }
 {
-    [0.0; COORDINATES]
-}
-
-// Reads the points of a file to the start of a list. (What a refused file leaves there is not said.)
-pub fn points_of(file: Held, bytes: &[u8], list: &mut [f64]) -> Listed
-    requires { length list.old ≡ 2 * limit }
-    ensures { ListedSays (found file bytes.now) result list.new }
-{
-    match file {
-        Held::Bytes(n) => points_in(first(bytes, n), list),
-        Held::Unreadable => Listed::None,
-    }
-}
-
-// The same where the file could be read.
-fn points_in(file: &[u8], list: &mut [f64]) -> Listed
-    requires { length list.old ≡ 2 * limit }
-    ensures { ListedSays (read file.now) result list.new }
-{
-    match track::read(file, list) {
-        Reading::Points(n) => Listed::Points(n),
-        Reading::Refused(_) => Listed::None,
-    }
+    let n = track::read(file?, list).ok()?;
+    Some(&list[..2 * n])
 }

@@ -3,6 +3,8 @@
 pub mod Refused
 -- a sign by its number; what a look decides
 pub mod Look
+-- a pass over a list from its end
+pub mod Backwards
 -- the one pass that finds both extremes
 pub mod Tally
 -- what holds of every entry, and a number of each entry added

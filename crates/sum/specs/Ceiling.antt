@@ -1,14 +1,13 @@
 -- The ceiling of a list: docs/RULES.md, section Ceiling. The grain u is 2 ^ grain units of 2^-1074.
-use Rattle.std.specs.Prelude.{ℕ, ◌+◌, ◌-◌, ◌/◌, ◌^◌, min, ◌≡◌, cond, List, [], ◌∷◌, eqb, Float}
+use Rattle.std.specs.Prelude.{ℕ, ◌+◌, ◌-◌, ◌/◌, ◌^◌, min, ◌≡◌, cond, List, [], ◌∷◌, eqb, Float, Result}
 use Rattle.std.specs.Int.Count.{count_trailing_zeros}
 use Rattle.std.specs.Float.{binary64}
 use Rattle.std.specs.Float.Ieee.{size}
 use Rattle.double.specs.Worth.{mag}
-use Rattle.refusal.specs.Outcome.{Outcome, answers, refuses}
+use Rattle.refusal.specs.Outcome.{Outcome, outcome}
 use Rattle.sum.specs.Limit.{divisor}
 use Rattle.sum.specs.Refused.{checked}
-use Rattle.sum.specs.declared.answer.Ceiling.{Ceiling}
-use Rattle.sum.specs.declared.answer.Ceiling.TheVariants.{Steps, Refused}
+use Rattle.refusal.specs.declared.Refusal.{Refusal}
 
 -- a magnitude is below 2 ^ digits units
 abbrev pub digits : ℕ
@@ -37,9 +36,8 @@ unfolding grain_of weight_of
 ceiling_of xs = weight_of divisor (grain_of xs) xs
 
 -- Answer 4: the rules' values, or number and place, for each case of the code's answer
-unfoldable pub ceiling_said : Ceiling → Outcome ℕ
-ceiling_said (Steps n) = answers n
-ceiling_said (Refused r) = refuses r.number r.place
+unfoldable pub ceiling_said : Result ℕ Refusal → Outcome ℕ
+ceiling_said r = outcome (λ n. n) r
 
 -- what `ceiling` answers. Ceiling 4, that a run with this budget decides and none takes more steps, is a law (Laws.Calls)
 unfoldable pub ceiling_answer : List Float → Outcome ℕ
@@ -47,5 +45,5 @@ unfolding checked ceiling_of
 ceiling_answer xs = checked xs (ceiling_of xs)
 
 -- the promise of `ceiling`
-abbrev pub CeilingSays : List Float → Ceiling → Type 0
+abbrev pub CeilingSays : List Float → Result ℕ Refusal → Type 0
 CeilingSays xs r = ceiling_said r ≡ ceiling_answer xs

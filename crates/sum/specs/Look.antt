@@ -1,14 +1,13 @@
 -- The look at a list, and what it decides: Sum 2 to 8 of docs/RULES.md. One definition serves both signs: the side s is false for positive
 -- entries and true for negative ones, as a sign bit is.
-use Rattle.std.specs.Prelude.{ℕ, suc, ◌+◌, Bool, true, false, cond, ◌&&◌, List, [], ◌∷◌, eqb, pos, Float}
+use Rattle.std.specs.Prelude.{ℕ, suc, ◌+◌, Bool, true, false, cond, ◌&&◌, List, [], ◌∷◌, eqb, pos, Float, None, Option, Some}
 use Rattle.std.specs.Float.{binary64}
 use Rattle.std.specs.Float.Ieee.{lt, le, neg, mul, of_int}
 use Rattle.double.specs.Worth.{plus0}
 use Rattle.sum.specs.declared.answer.Sign.TheVariants.{Minus, Zero, Plus}
-use Rattle.sum.specs.declared.answer.Verdict.{Verdict}
-use Rattle.sum.specs.declared.answer.Verdict.TheVariants.{Decided, Undecided}
 use Rattle.sum.specs.declared.look.Look.{Look}
 use Rattle.sum.specs.declared.look.Look.TheVariants.{Neither, Positive, Negative, Both}
+use Rattle.sum.specs.declared.answer.Sign.{Sign}
 
 -- Sum 2: x is positive, or negative; a zero is neither
 abbrev pub on_side : Bool → Float → Bool
@@ -53,16 +52,16 @@ abbrev pub times : ℕ → Float → Float
 times k x = mul binary64 (of_int binary64 (pos k)) x
 
 -- Sum 7: +1 if a is greater than the rounded n times b, -1 if b is greater than the rounded m times a, otherwise undecided
-abbrev pub compared : ℕ → ℕ → Float → Float → Verdict
-compared m n a b = cond (lt (times n b) a) (Decided Plus) (cond (lt (times m a) b) (Decided Minus) Undecided)
+abbrev pub compared : ℕ → ℕ → Float → Float → Option Sign
+compared m n a b = cond (lt (times n b) a) (Some Plus) (cond (lt (times m a) b) (Some Minus) None)
 
 -- Sum 4: 0 where there is neither, +1 for only positive entries, -1 for only negative ones; otherwise by the two extremes
-unfoldable pub verdict_by : ℕ → ℕ → Look → Verdict
-verdict_by m n Neither = Decided Zero
-verdict_by m n (Positive a) = Decided Plus
-verdict_by m n (Negative b) = Decided Minus
+unfoldable pub verdict_by : ℕ → ℕ → Look → Option Sign
+verdict_by m n Neither = Some Zero
+verdict_by m n (Positive a) = Some Plus
+verdict_by m n (Negative b) = Some Minus
 verdict_by m n (Both a b) = compared m n a (neg b)
 
-unfoldable pub verdict_of : List Float → Verdict
+unfoldable pub verdict_of : List Float → Option Sign
 unfolding count_of look_of verdict_by
 verdict_of xs = verdict_by (count_of false xs) (count_of true xs) (look_of xs)

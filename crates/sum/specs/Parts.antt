@@ -1,24 +1,22 @@
 -- What inner functions promise of one fault, one sum of two and the run on a list that is not refused: believed by no reader.
-use Rattle.std.specs.Prelude.{ℕ, ◌≤◌, ◌<◌, ◌≡◌, List, T, Float, not, ◌+ℤ◌}
+use Rattle.std.specs.Prelude.{ℕ, ◌≤◌, ◌<◌, ◌≡◌, List, T, Float, not, ◌+ℤ◌, Result}
 use Rattle.std.specs.Float.{binary64}
 use Rattle.std.specs.Float.Ieee.Scale.{finite}
-use Rattle.refusal.specs.Outcome.{Outcome, answers, refuses}
-use Rattle.sum.specs.declared.fault.Fault.{Fault}
-use Rattle.sum.specs.declared.fault.Fault.TheVariants.{None, At}
+use Rattle.refusal.specs.Outcome.{Outcome, outcome}
 use Rattle.double.specs.Worth.{worth, sign_bit, mag}
 use Rattle.sum.specs.Refused.{checked}
 use Rattle.sum.specs.declared.answer.Ran.{Ran}
 use Rattle.sum.specs.Step.{rounded, roundoff}
 use Rattle.sum.specs.Run.{ran_from}
+use Rattle.refusal.specs.declared.Refusal.{Refusal}
 
 -- where there is nothing else to answer
 abbrev pub fault_of : List Float → Outcome Unit
 fault_of xs = checked xs tt
 
 -- what the search for a fault says
-unfoldable pub found : Fault → Outcome Unit
-found None = answers tt
-found (At r) = refuses r.number r.place
+unfoldable pub found : Result Unit Refusal → Outcome Unit
+found r = outcome (λ u. u) r
 
 -- finite, of unlike sign, neither 0, and a no smaller in magnitude than b
 pub record Opposed (a b : Float) : Type 0 where

@@ -1,31 +1,29 @@
 -- A run: looks and steps, as far as a budget goes; and what `run` promises: Sum 13 to 17 of docs/RULES.md.
-use Rattle.std.specs.Prelude.{ℕ, zero, suc, ◌+◌, ◌-◌, ◌^◌, ◌<◌, ◌≡◌, List, ℤ, Float}
-use Rattle.refusal.specs.Outcome.{Outcome, answers, refuses}
+use Rattle.std.specs.Prelude.{ℕ, zero, suc, ◌+◌, ◌-◌, ◌^◌, ◌<◌, ◌≡◌, List, ℤ, Float, None, Option, Result, Some}
+use Rattle.refusal.specs.Outcome.{Outcome, outcome}
 use Rattle.refusal.specs.Judged.{leaves}
 use Rattle.sum.specs.Refused.{checked}
 use Rattle.sum.specs.Total.{sign_number}
 use Rattle.sum.specs.Look.{verdict_of}
 use Rattle.sum.specs.Step.{step_of}
 use Rattle.sum.specs.declared.answer.Sign.{Sign}
-use Rattle.sum.specs.declared.answer.Verdict.{Verdict}
-use Rattle.sum.specs.declared.answer.Verdict.TheVariants.{Decided, Undecided}
-use Rattle.sum.specs.declared.answer.Run.{Run}
-use Rattle.sum.specs.declared.answer.Run.TheVariants.{Done, Refused}
+use Rattle.refusal.specs.declared.Refusal.{Refusal}
+use Rattle.sum.specs.declared.answer.Ran.{Ran}
 
 -- where a run ends: the verdict, the steps taken and the list
 pub record Reached : Type 0 where
-  pub verdict : Verdict
+  pub verdict : Option Sign
   pub steps : ℕ
   pub left : List Float
 
-abbrev pub reached : Verdict → ℕ → List Float → Reached
+abbrev pub reached : Option Sign → ℕ → List Float → Reached
 reached v k xs = record { verdict = v; steps = k; left = xs }
 
 -- Sum 13: looks, and steps while the look is undecided and steps are left: `more` are left of the budget, k are taken
 unfoldable pub ran_from : ℕ → ℕ → List Float → Reached
 unfolding verdict_of step_of
 ran_from zero k xs = reached (verdict_of xs) k xs
-ran_from (suc more) k xs = elim (verdict_of xs) [ Decided s ↦ reached (Decided s) k xs | Undecided ↦ ran_from more (k + 1) (step_of xs) ]
+ran_from (suc more) k xs = elim (verdict_of xs) [ Some s ↦ reached (Some s) k xs | None ↦ ran_from more (k + 1) (step_of xs) ]
 
 -- the list after n steps, whatever a look at it decides
 unfoldable pub after : ℕ → List Float → List Float
@@ -35,8 +33,8 @@ after (suc n) xs = after n (step_of xs)
 
 -- Sum 17: the steps that settle a list, whatever the budget: a look decides after n of them, and after no fewer
 pub record Settles (xs : List Float) (n : ℕ) : Type 0 where
-  pub decides : (s : Sign) × (verdict_of (after n xs) ≡ Decided s)
-  pub before : (i : ℕ) → i < n → verdict_of (after i xs) ≡ Undecided
+  pub decides : (s : Sign) × (verdict_of (after n xs) ≡ Some s)
+  pub before : (i : ℕ) → i < n → verdict_of (after i xs) ≡ None
 
 -- Sum 13: the greatest budget, a count of 32 bits
 abbrev pub most_budget : ℕ
@@ -49,21 +47,20 @@ pub data Decision : Type 0 where
   sign : ℤ → Decision
   undecided : Decision
 
-abbrev pub decision : Verdict → Decision
-decision (Decided s) = sign (sign_number s)
-decision Undecided = undecided
+abbrev pub decision : Option Sign → Decision
+decision (Some s) = sign (sign_number s)
+decision None = undecided
 
 pub record Told : Type 0 where
   pub decided : Decision
   pub steps : ℕ
 
-abbrev pub told : Verdict → ℕ → Told
+abbrev pub told : Option Sign → ℕ → Told
 told v k = record { decided = decision v; steps = k }
 
 -- Answer 4: the rules' values, or number and place, for each case of the code's answer
-unfoldable pub said : Run → Outcome Told
-said (Done r) = answers (told r.verdict r.steps)
-said (Refused r) = refuses r.number r.place
+unfoldable pub said : Result Ran Refusal → Outcome Told
+said r = outcome (λ r. told r.verdict r.steps) r
 
 -- Sum 14: what `run` answers. Sum 16: undecided if and only if the look after all steps of the budget is; with Sum 17 a law (Laws.Calls)
 unfoldable pub run_of : List Float → ℕ → Outcome Told
@@ -76,6 +73,6 @@ unfolding run_of ran_from
 left_of xs budget = leaves (run_of xs budget) (λ _. (ran_from budget 0 xs).left) xs
 
 -- the promise of `run`: the answer, and every entry of the list
-pub record RunSays (xs : List Float) (budget : ℕ) (r : Run) (after : List Float) : Type 0 where
+pub record RunSays (xs : List Float) (budget : ℕ) (r : Result Ran Refusal) (after : List Float) : Type 0 where
   pub answer : said r ≡ run_of xs budget
   pub left : after ≡ left_of xs budget

@@ -1,9 +1,8 @@
 -- The one pass that finds both extremes: what inner functions promise. Laws say that it finds what the look's definitions name.
-use Rattle.std.specs.Prelude.{ℕ, ◌+◌, ◌≡◌, true, false, cond, List, Float}
+use Rattle.std.specs.Prelude.{ℕ, ◌+◌, ◌≡◌, true, false, cond, List, Float, None}
 use Rattle.double.specs.Worth.{AllDoubles}
 use Rattle.sum.specs.Refused.{AllFinite}
 use Rattle.sum.specs.Look.{on_side, as_far, count_of, extreme_of, index_of, look_by, verdict_of}
-use Rattle.sum.specs.declared.answer.Verdict.TheVariants.{Undecided}
 use Rattle.sum.specs.declared.look.Look.{Look}
 use Rattle.sum.specs.declared.look.Tally.{Tally}
 
@@ -39,4 +38,4 @@ pub record Stepping (xs : List Float) (t : Tally) : Type 0 where
   pub tally : t ≡ tally_of 0 xs
   pub doubles : AllDoubles xs
   pub finite : AllFinite xs
-  pub undecided : verdict_of xs ≡ Undecided
+  pub undecided : verdict_of xs ≡ None

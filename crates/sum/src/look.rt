@@ -5,10 +5,11 @@ ghost use Rattle.std.specs.Float.Ieee.{lt};
 ghost use Rattle.sum.specs.Look.{times, verdict_by};
 ghost use Rattle.sum.specs.Tally.{seen_of, tally_of, look_at};
 
-use crate::answer::{Sign, Verdict};
+use crate::answer::Sign;
 
 // The extremes of a list: the greatest positive entry a, at the lowest index, among m positive entries; the most negative one b likewise,
-// among n. Where there is none the entry is 0.0, and its index the list's length.
+// among n. Where there is none the entry is 0.0, and its index the list's length, as `extreme_of` and
+// `index_of` have it.
 #[derive(Clone, Copy)]
 pub struct Tally {
     pub a: f64,
@@ -64,18 +65,16 @@ pub fn tallied(list: &[f64]) -> Tally
     requires { length list.now ≤ limit }
     ensures { result ≡ tally_of 0 list.now }
 {
-    let mut i = list.len();
     let mut t = Tally {
         a: 0.0,
-        at: i,
+        at: list.len(),
         m: 0,
         b: 0.0,
-        bt: i,
+        bt: list.len(),
         n: 0,
     };
-    while 0 < i {
-        i -= 1;
-        t = seen(t, list[i], i);
+    for (i, x) in list.iter().enumerate().rev() {
+        t = seen(t, *x, i);
     }
     t
 }
@@ -103,22 +102,22 @@ fn exceeds(a: f64, k: u32, b: f64) -> bool
 }
 
 // What a look decides, of m positive and n negative entries.
-pub fn judged(found: Look, m: u32, n: u32) -> Verdict
+pub fn judged(found: Look, m: u32, n: u32) -> Option<Sign>
     ensures { result ≡ verdict_by m n found }
 {
     match found {
-        Look::Neither => Verdict::Decided(Sign::Zero),
-        Look::Positive(_) => Verdict::Decided(Sign::Plus),
-        Look::Negative(_) => Verdict::Decided(Sign::Minus),
+        Look::Neither => Some(Sign::Zero),
+        Look::Positive(_) => Some(Sign::Plus),
+        Look::Negative(_) => Some(Sign::Minus),
         Look::Both(a, q) => {
             let b = -q;
             if exceeds(a, n, b) {
-                return Verdict::Decided(Sign::Plus);
+                return Some(Sign::Plus);
             }
             if exceeds(b, m, a) {
-                return Verdict::Decided(Sign::Minus);
+                return Some(Sign::Minus);
             }
-            Verdict::Undecided
+            None
         }
     }
 }

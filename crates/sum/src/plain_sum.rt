@@ -1,32 +1,24 @@
 // The plain sum: the sign of the exact total, in whole numbers. The list is only read.
 ghost use Rattle.sum.specs.Plain.{PlainSays};
 
-use crate::answer::Plain;
+use crate::answer::Sign;
 use crate::fault::LIMIT;
 use crate::words::sign_of;
-use refusal::{NOT_FINITE, Refusal, TOO_MANY};
+use refusal::{Kind, Refusal, refused};
 use total::{WORDS, add};
 
 // The sign of the list's total. One pass: the first entry that is not added is the first that is not finite.
-pub fn plain(list: &[f64]) -> Plain
+pub fn plain(list: &[f64]) -> Result<Sign, Refusal>
     ensures { PlainSays list.now result }
 {
     if LIMIT < list.len() {
-        return Plain::Refused(Refusal {
-            number: TOO_MANY,
-            place: 0,
-        });
+        return refused(Kind::TooMany, 0);
     }
     let mut words = [0u64; WORDS];
-    let mut i: usize = 0;
-    while i < list.len() {
-        if !add(&mut words, list[i]) {
-            return Plain::Refused(Refusal {
-                number: NOT_FINITE,
-                place: i,
-            });
+    for (i, x) in list.iter().enumerate() {
+        if !add(&mut words, *x) {
+            return refused(Kind::NotFinite, i);
         }
-        i += 1;
     }
-    Plain::Signed(sign_of(&words))
+    Ok(sign_of(&words))
 }

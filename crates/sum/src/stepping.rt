@@ -6,45 +6,31 @@ ghost use Rattle.sum.specs.Tally.{Stepping};
 
 use crate::look::Tally;
 
-// A rounded sum and its roundoff.
-#[derive(Clone, Copy)]
-pub struct Pair {
-    pub x: f64,
-    pub y: f64,
-}
-
-// Of two doubles of unlike sign, a the larger in magnitude: x and y together are exactly a and b. (Dekker 1971.)
-fn exact_sum(a: f64, b: f64) -> Pair
+// Of two doubles of unlike sign, a the larger in magnitude: their rounded sum, and its roundoff. Together they are exactly a and b.
+// (Dekker 1971.)
+fn exact_sum(a: f64, b: f64) -> (f64, f64)
     requires { Opposed a b }
-    ensures { ExactSum a b result.x result.y }
+    ensures { ExactSum a b result.0 result.1 }
 {
     let x = a + b;
     let z = x - a;
     let y = b - z;
-    Pair { x: x, y: y }
+    (x, y)
 }
 
 // The step of an undecided list with the tally t.
+#[tactic(auto, using(crate::proofs::Laws::Stepping::at_inside, crate::proofs::Laws::Stepping::bt_inside, crate::proofs::Laws::Stepping::bt_after))]
 pub fn step(list: &mut [f64], t: Tally)
     requires { Stepping list.old t }
     ensures { list.new ≡ step_of list.old }
 {
-    let i = t.at;
-    let j = t.bt;
-    let a = t.a;
-    let b = t.b;
+    let Tally { a, b, at, bt, .. } = t;
     if -b < a {
-        let s = exact_sum(a, b);
-        list[i] = s.x;
-        list[j] = s.y;
-        return;
+        (list[at], list[bt]) = exact_sum(a, b);
+    } else if a < -b {
+        let (x, y) = exact_sum(b, a);
+        (list[at], list[bt]) = (y, x);
+    } else {
+        (list[at], list[bt]) = (0.0, 0.0);
     }
-    if a < -b {
-        let s = exact_sum(b, a);
-        list[i] = s.y;
-        list[j] = s.x;
-        return;
-    }
-    list[i] = 0.0;
-    list[j] = 0.0;
 }

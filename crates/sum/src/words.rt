@@ -1,5 +1,6 @@
 // The sign of a total that is held as words of 64 bits, the lowest first, in two's complement.
-ghost use Rattle.std.specs.Prelude.{◌≡◌, length};
+ghost use Rattle.std.specs.Prelude.{◌≡◌, ◌==◌, length};
+ghost use Rattle.std.specs.List.{list_all};
 ghost use Rattle.total.specs.Words.{count};
 ghost use Rattle.sum.specs.Words.{SignSays};
 
@@ -9,6 +10,12 @@ use total::WORDS;
 // The top bit of a word.
 const TOP: u64 = 0x8000_0000_0000_0000;
 
+fn all_zero(words: &[u64]) -> bool
+    ensures { result ≡ list_all (λ word. word == 0) words.now }
+{
+    words.iter().all(|word| *word == 0)
+}
+
 // The sign of a total: its top bit, and whether a word is not 0.
 pub fn sign_of(words: &[u64]) -> Sign
     requires { length words.now ≡ count }
@@ -17,12 +24,9 @@ pub fn sign_of(words: &[u64]) -> Sign
     if TOP <= words[WORDS - 1] {
         return Sign::Minus;
     }
-    let mut i: usize = 0;
-    while i < words.len() {
-        if words[i] != 0 {
-            return Sign::Plus;
-        }
-        i += 1;
+    if all_zero(words) {
+        Sign::Zero
+    } else {
+        Sign::Plus
     }
-    Sign::Zero
 }

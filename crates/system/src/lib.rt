@@ -29,13 +29,14 @@ pub fn write_to<W: Write>(out: &mut W, text: &[u8]) -> io::Result<()>
     ensures all { OnOk result (Appends (W.contents out.old) (W.contents out.new) text.now) }
     ensures start { OnErr result (AppendsStart (W.contents out.old) (W.contents out.new) text.now) }
 {
-    let mut done: usize = 0;
-    while done < text.len() {
-        let k = taken(out, &text[done..])?;
+    let mut rest = text;
+    // No `for`: how much a write takes is not known before it.
+    while !rest.is_empty() {
+        let k = taken(out, rest)?;
         if k == 0 {
             return Err(Error::from(ErrorKind::WriteZero));
         }
-        done += k;
+        rest = &rest[k..];
     }
     Ok(())
 }
@@ -54,7 +55,7 @@ fn taken<W: Write>(out: &mut W, text: &[u8]) -> io::Result<usize>
     Err(Error::from(ErrorKind::Interrupted))
 }
 
-// One read; an interrupted one is tried again.
+// One read; an interrupted one is tried again. (Not one loop with `taken`, by a closure: no clause could say which bytes a closure moved.)
 pub fn read<R: Read>(from: &mut R, buf: &mut [u8]) -> io::Result<usize>
     ensures bound { ReadsAtMost result buf.new }
     ensures bytes { ReadConsumes (R.remaining from.old) (R.remaining from.new) result buf.new }

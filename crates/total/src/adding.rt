@@ -2,7 +2,6 @@
 ghost use Rattle.total.specs.Add.{AddSays};
 
 use crate::words::{WORDS, put};
-use double::answer::Taken;
 use double::take_apart;
 
 // Adds x to a total of 33 words, unless x is infinite or not a number: whether it did.
@@ -12,7 +11,7 @@ pub fn add(total: &mut [u64], x: f64) -> bool
     if total.len() != WORDS {
         return false;
     }
-    let Taken::Apart(p) = take_apart(x) else {
+    let Ok(p) = take_apart(x) else {
         return false;
     };
     put(total, p);

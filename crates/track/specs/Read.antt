@@ -1,13 +1,12 @@
 -- What the reader answers for any bytes: Track 11 and Order 8 of docs/RULES.md.
-use Rattle.std.specs.Prelude.{ℕ, ◌*◌, ◌/◌, ◌≡◌, List, leb, length, Float}
-use Rattle.refusal.specs.Outcome.{Outcome, answers, refuses, too_many, no_room}
+use Rattle.std.specs.Prelude.{ℕ, ◌*◌, ◌/◌, ◌≡◌, List, leb, length, Float, Result}
+use Rattle.refusal.specs.declared.Refusal.{Refusal}
+use Rattle.refusal.specs.Outcome.{Outcome, answers, too_many, no_room, outcome}
 use Rattle.refusal.specs.Judged.{require, also, filled}
+use Rattle.number.specs.declared.answer.Number.{Number}
 use Rattle.number.specs.Number.{number_of}
 use Rattle.track.specs.Scan.{scan_from, values}
 use Rattle.track.specs.File.{limit}
-use Rattle.number.specs.declared.answer.Number.{Number}
-use Rattle.track.specs.declared.answer.Reading.{Reading}
-use Rattle.track.specs.declared.answer.Reading.TheVariants.{Points, Refused}
 
 -- the values of the last n coordinates of a file, or the refusal that stopped the scan of them
 unfoldable pub coordinates_of : List ℕ → ℕ → ℕ → ℕ → ℕ → Outcome (List Float)
@@ -34,11 +33,10 @@ abbrev pub points_said : Outcome (List Float) → Outcome ℕ
 points_said o = also o (λ points. answers (length points / 2))
 
 -- Answer 4: the rules' values, or number and place, for each case of the code's answer
-abbrev pub said : Reading → Outcome ℕ
-said (Points n) = answers n
-said (Refused r) = refuses r.number r.place
+abbrev pub said : Result ℕ Refusal → Outcome ℕ
+said r = outcome (λ n. n) r
 
 -- Track 11, the promise: the answer, and every lent entry: the first two for each point are filled, later ones stay
-pub record ReadSays (bytes : List ℕ) (lent : List Float) (r : Reading) (left : List Float) : Type 0 where
+pub record ReadSays (bytes : List ℕ) (lent : List Float) (r : Result ℕ Refusal) (left : List Float) : Type 0 where
   pub answer : said r ≡ points_said (read_of limit bytes (length lent))
   pub entries : left ≡ filled (read_of limit bytes (length lent)) lent

@@ -2,8 +2,8 @@
 use Rattle.std.specs.Prelude.{ℕ, zero, suc, List, [], ◌∷◌, leb, length, Float}
 use Rattle.refusal.specs.Outcome.{Outcome, answers, refuses, bytes_after}
 use Rattle.refusal.specs.Judged.{require}
-use Rattle.coordinate.specs.Coordinate.{coordinate_of}
 use Rattle.coordinate.specs.declared.answer.Coordinate.{Coordinate}
+use Rattle.coordinate.specs.Coordinate.{coordinate_of}
 
 -- the whole coordinates before the stop, in order; and what stopped it, if anything: 6, 7 or 3 where a number begins, 8 at the first byte
 -- too many

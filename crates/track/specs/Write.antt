@@ -1,13 +1,12 @@
 -- What the writer answers: Track 10 and Order 7 of docs/RULES.md.
-use Rattle.std.specs.Prelude.{ℕ, ◌*◌, ◌%◌, ◌<◌, ◌≡◌, true, List, eqb, leb, length, get_or, Float}
+use Rattle.std.specs.Prelude.{ℕ, ◌*◌, ◌%◌, ◌<◌, ◌≡◌, true, List, eqb, leb, length, get_or, Float, Result}
 use Rattle.std.specs.Float.{nan}
-use Rattle.refusal.specs.Outcome.{Outcome, answers, refuses, odd_length, too_many, no_room}
+use Rattle.refusal.specs.declared.Refusal.{Refusal}
+use Rattle.refusal.specs.Outcome.{Outcome, answers, odd_length, too_many, no_room, outcome}
 use Rattle.refusal.specs.Search.{passing_from}
-use Rattle.point.specs.Accepted.{accepted_within, accepted_of, accepting_from}
 use Rattle.refusal.specs.Judged.{require, also, filled}
+use Rattle.point.specs.Accepted.{accepted_within, accepted_of, accepting_from}
 use Rattle.track.specs.File.{limit, file_of}
-use Rattle.track.specs.declared.answer.Writing.{Writing}
-use Rattle.track.specs.declared.answer.Writing.TheVariants.{Length, Refused}
 
 -- Refusals 3: a coordinate that is not accepted, at its index, for a list that begins at index i
 abbrev pub accepted_from : ℕ → List Float → Outcome Unit
@@ -28,12 +27,11 @@ abbrev pub length_said : Outcome (List ℕ) → Outcome ℕ
 length_said o = also o (λ file. answers (length file))
 
 -- Answer 4: the rules' values, or number and place, for each case of the code's answer
-abbrev pub said : Writing → Outcome ℕ
-said (Length n) = answers n
-said (Refused r) = refuses r.number r.place
+abbrev pub said : Result ℕ Refusal → Outcome ℕ
+said r = outcome (λ n. n) r
 
 -- Track 10, the promise: the answer, and every lent byte: the file at their start, and what is behind it as it was
-pub record WriteSays (points : List Float) (lent : List ℕ) (r : Writing) (left : List ℕ) : Type 0 where
+pub record WriteSays (points : List Float) (lent : List ℕ) (r : Result ℕ Refusal) (left : List ℕ) : Type 0 where
   pub answer : said r ≡ length_said (write_of limit points (length lent))
   pub bytes : left ≡ filled (write_of limit points (length lent)) lent
 

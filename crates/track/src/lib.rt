@@ -3,7 +3,7 @@
 // No public function has a `requires`: each answers or refuses for every list and every file. A refusal writes nothing.
 #![tactic(auto)]
 
-pub mod answer;
+mod axes;
 pub mod limit;
 mod put;
 mod reader;

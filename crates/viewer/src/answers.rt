@@ -3,9 +3,11 @@ ghost use Rattle.std.specs.Prelude.{◌≡◌, ◌+◌, ◌≤◌};
 ghost use Rattle.sum.specs.Total.{sign_number};
 ghost use Rattle.geometry.specs.Zone.{place_said};
 ghost use Rattle.ground.specs.Zone.{place_number};
+ghost use Rattle.refusal.specs.Outcome.{kind_number};
 ghost use Rattle.viewer.specs.Entries.{sign_answer, base};
 
 use geometry::answer::Place;
+use refusal::Kind;
 use sum::answer::Sign;
 
 // What a refusal's number is added to.
@@ -36,9 +38,8 @@ pub fn place_answer(place: Place) -> u32
 }
 
 // 100 plus the number of a refusal, of which the table has nine.
-pub fn refusal_answer(number: u32) -> u32
-    requires { number ≤ 9 }
-    ensures { result ≡ base + number }
+pub fn refusal_answer(kind: Kind) -> u32
+    ensures { result ≡ base + kind_number kind }
 {
-    BASE + number
+    BASE + kind.number()
 }

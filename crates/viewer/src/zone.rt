@@ -5,9 +5,8 @@ ghost use Rattle.viewer.specs.Entries.{ZoneEntrySays};
 
 use crate::answers::{place_answer, refusal_answer};
 use crate::bytes::{decode, point_of};
-use geometry::answer::Zone;
 use geometry::limit::{FEWEST, MOST};
-use refusal::{ODD_LENGTH, TOO_FEW_CORNERS, TOO_MANY};
+use refusal::Kind;
 
 // The bytes of a corner: x, then y.
 const CORNER: usize = 16;
@@ -15,31 +14,25 @@ const CORNER: usize = 16;
 // Room for the doubles of the most corners.
 const ROOM: usize = 2 * MOST;
 
-fn zeros() -> [f64; ROOM]
-    ensures { 2 * most ≡ length result }
-{
-    [0.0; ROOM]
-}
-
 // Whether the point is outside the zone, on its border or inside: 0, 1, 2; or 105, 104, 101, 103, the first that fits.
 // The length is judged before a corner is read.
 pub fn ghomxarin_zone(px: u64, py: u64, corners: &[u8]) -> u32
     ensures { ZoneEntrySays px py corners.now result }
 {
     if corners.len() % CORNER != 0 {
-        return refusal_answer(ODD_LENGTH);
+        return refusal_answer(Kind::OddLength);
     }
     let n = corners.len() / CORNER;
     if n < FEWEST {
-        return refusal_answer(TOO_FEW_CORNERS);
+        return refusal_answer(Kind::TooFewCorners);
     }
     if MOST < n {
-        return refusal_answer(TOO_MANY);
+        return refusal_answer(Kind::TooMany);
     }
-    let mut list = zeros();
-    decode(corners, 2 * n, &mut list);
+    let mut list = [0.0; ROOM];
+    decode(corners, &mut list);
     match geometry::zone(&list[..2 * n], point_of(px, py)) {
-        Zone::At(place) => place_answer(place),
-        Zone::Refused(refusal) => refusal_answer(refusal.number),
+        Ok(place) => place_answer(place),
+        Err(refusal) => refusal_answer(refusal.kind),
     }
 }

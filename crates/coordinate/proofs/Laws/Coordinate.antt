@@ -1,20 +1,16 @@
 -- One coordinate of a file. In order: a pattern that is no NaN's; a pattern judged; a number judged; what each refusal is; the promise. Not
 -- here: that a coordinate is read back, and what one that was read tells (Laws.Taken). Assumes nothing.
-use Rattle.std.proofs.Common.{◌≡◌, ℕ, ◌*◌, ◌%◌, ◌<◌, ◌≤◌, Bool, true, false, not, ◌||◌, T, eqb, List, sym, refl, ap, ◌∙◌, subst, arith, le-ltb, lt-ltb}
+use Rattle.std.proofs.Common.{◌≡◌, ℕ, ◌*◌, ◌%◌, ◌<◌, ◌≤◌, Bool, true, false, not, ◌||◌, T, eqb, List, sym, refl, ◌∙◌, subst, le-ltb, lt-ltb}
 use lib.Ieee.{Float, nan, inf, fin, binary64, is_nan, nan_bits, of_bits, ones, hid, top}
 use lib.Ieee.Bits.{nan_bits_above, nan_bits_is}
 use Rattle.refusal.specs.Outcome.{answers, refuses, not_accepted, ends_early, not_shortest, Fixes}
 use Rattle.point.specs.Accepted.{accepted_of, accepted_within}
+use Rattle.number.specs.declared.answer.Number.{Number}
 use Rattle.number.specs.Number.{number_of}
 use Rattle.coordinate.specs.Difference.{restored_of}
-use Rattle.coordinate.specs.Coordinate.{judged_of, coordinate_of, heard, CoordinateSays}
-use Rattle.coordinate.specs.declared.answer.Coordinate.{Coordinate}
-use Rattle.coordinate.specs.declared.answer.Located.{Located}
-use Rattle.coordinate.specs.declared.answer.Located.TheVariants.{Whole, Refused}
-use Rattle.number.specs.declared.answer.Number.{Number}
-use Rattle.refusal.proofs.Laws.Outcome.{refuses_once}
-use Rattle.refusal.proofs.Laws.Judged.{also_answers, also_refuses, require_holds, require_fails}
-use Rattle.refusal.proofs.Laws.Judged.{Each, each_answers, each_also, each_require}
+use Rattle.coordinate.specs.Coordinate.{judged_of, coordinate_of, CoordinateSays}
+use Rattle.refusal.proofs.Laws.Outcome.{outcome_once}
+use Rattle.refusal.proofs.Laws.Judged.{also_answers, also_refuses, require_holds, require_fails, Each, each_answers, each_also, each_require}
 use Rattle.number.proofs.Laws.Number.{number_each}
 
 -- ---- patterns of NaNs
@@ -81,11 +77,5 @@ module _ (bytes : List ℕ) (start before : ℕ) where
       coordinate_each such (number_each such bytes start (λ _. (refl, refl)) (λ _. (refl, refl))) (refl, refl)
 
 -- ---- the promise, which no two results satisfy
-heard_once : (a b : Located) → heard a ≡ heard b → a ≡ b
-heard_once (Whole m) (Whole n) e = let p : m ≡ n = cc in ap Whole p
-heard_once (Refused r) (Refused q) e = ap Refused (refuses_once {A = Coordinate} r q e)
-heard_once (Whole m) (Refused q) e = absurd (let z : ◌≡◌ {A = ℕ} 0 1 = cc in omega arith)
-heard_once (Refused r) (Whole n) e = absurd (let z : ◌≡◌ {A = ℕ} 0 1 = cc in omega arith)
-
 pub coordinate_at_fixed : (bytes : List ℕ) (start before : ℕ) → Fixes (CoordinateSays bytes start before)
-coordinate_at_fixed bytes start before a b p q = heard_once a b (p ∙ sym q)
+coordinate_at_fixed bytes start before a b p q = outcome_once _ (λ c d e. e) a b (p ∙ sym q)

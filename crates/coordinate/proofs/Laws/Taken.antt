@@ -7,8 +7,8 @@ use lib.Ieee.Bits.{of_bits-to_bits, to_bits-of_bits, to_bits-lt}
 use Rattle.refusal.specs.Outcome.{Outcome, answers, not_accepted}
 use Rattle.refusal.specs.Judged.{also}
 use Rattle.point.specs.Accepted.{accepted_of}
-use Rattle.number.specs.Number.{written_of, Bytes, number_of}
 use Rattle.number.specs.declared.answer.Number.{Number}
+use Rattle.number.specs.Number.{written_of, Bytes, number_of}
 use Rattle.coordinate.specs.declared.answer.Coordinate.{Coordinate}
 use Rattle.coordinate.specs.Difference.{stored_of, restored_of}
 use Rattle.coordinate.specs.Coordinate.{judged_of, coordinate_of}

@@ -8,61 +8,62 @@ use Prim.Native.Nat.{ℕ, zero, suc, ◌≤◌, ◌<◌}
 use native.Mathlib.Omega.{arith}
 use lib.ListN.{length, get_or, length-map, get_or-eq_default}
 use lib.Ieee.{Float}
+use Rattle.std.specs.Prelude.{Err, Ok, Result}
 use Rattle.whole.proofs.Laws.Order.{lt_or_le}
 use Rattle.ground.specs.Zone.{Lies, outside, border, inside, place_number}
-use Rattle.refusal.specs.Outcome.{answers, Fixes}
+use Rattle.refusal.specs.Outcome.{answers, Fixes, kind_number}
 use Rattle.refusal.proofs.Laws.Outcome.{never, no_refusal}
+use Rattle.refusal.specs.declared.Refusal.{Refusal}
+use Rattle.refusal.proofs.Laws.Outcome.{refusal_once}
 use Rattle.point.specs.declared.Point.{Point}
 use Rattle.point.specs.Accepted.{Accepted}
 use Rattle.geometry.specs.Zone.{place_in, place_said, zone_said, zone_of, ZoneSays}
 use Rattle.geometry.specs.Reasons.{few}
 use Rattle.geometry.specs.declared.answer.Place.TheVariants.{Border as PlaceBorder, Inside as PlaceInside}
-use Rattle.geometry.specs.declared.answer.Zone.TheVariants.{At}
 use Rattle.geometry.proofs.Laws.Answered.{zone_answered}
 use Rattle.geometry.proofs.Laws.Calls.{found_refused}
 use Rattle.crease.specs.Claim.{On, In, Holds}
-use Rattle.crease.specs.Plan.{zones_of, places_in, passes, stops, verdict_said, PlanSays}
+use Rattle.crease.specs.Plan.{zones_of, places_in, passes, stops, verdict_said, FromSays, PlanSays}
 use Rattle.crease.specs.Reasons.{zone_at, Counted, Answered, PlanRefusedAs}
 use Rattle.crease.specs.declared.answer.Pair.{Pair}
 use Rattle.crease.specs.declared.answer.Claim.{Claim}
 use Rattle.crease.specs.declared.answer.Claim.TheVariants.{Border, None, Alone, Shared}
 use Rattle.crease.specs.declared.answer.ZoneRefusal.{ZoneRefusal}
-use Rattle.crease.specs.declared.answer.Plan.{Plan}
-use Rattle.crease.specs.declared.answer.Plan.TheVariants.{Of, Refused}
 use Rattle.crease.proofs.Laws.Claims.{within, holds_once}
 use Rattle.crease.proofs.Laws.Told.{length_zones, judged_passes, passes_judged, refused_found_plan, found_refused_plan}
 
 -- ---- which plans are refused: 1, 5, the point's 3, then as the first refused zone is, with its number
-refusal_once : (f g : ZoneRefusal) → stops f.number f.place f.zone ≡ stops g.number g.place g.zone → f ≡ g
-refusal_once f g e =
-    let number : f.number ≡ g.number = cc in
-    let place : f.place ≡ g.place = cc in
+zone_refusal_once : (f g : ZoneRefusal) → stops (kind_number f.refusal.kind) f.refusal.place f.zone ≡ stops (kind_number g.refusal.kind) g.refusal.place g.zone → f ≡ g
+zone_refusal_once f g e =
+    let number : kind_number f.refusal.kind ≡ kind_number g.refusal.kind = cc in
+    let place : f.refusal.place ≡ g.refusal.place = cc in
+    let refusal : f.refusal ≡ g.refusal = refusal_once _ _ number place in
     let zone : f.zone ≡ g.zone = cc in
-    λ i. record { number = number i; place = place i; zone = zone i }
+    λ i. record { refusal = refusal i; zone = zone i }
 
 module _ (counts : List ℕ) (corners : List Float) (p : Point) where
-  pub plan_refused : (r : Plan) → PlanSays counts corners p r
-      → (f : ZoneRefusal) → (r ≡ Refused f) ↔ PlanRefusedAs counts corners p f.number f.place f.zone
+  pub plan_refused : (r : Result Claim ZoneRefusal) → PlanSays counts corners p r
+      → (f : ZoneRefusal) → (r ≡ Err f) ↔ PlanRefusedAs counts corners p (kind_number f.refusal.kind) f.refusal.place f.zone
   plan_refused r says f = (
-    λ e. refused_found_plan counts corners p f.number f.place f.zone (sym says.judged ∙ ap verdict_said e),
-    λ w. only r (says.judged ∙ found_refused_plan counts corners p f.number f.place f.zone w),
+    λ e. refused_found_plan counts corners p (kind_number f.refusal.kind) f.refusal.place f.zone (sym says.judged ∙ ap verdict_said e),
+    λ w. only r (says.judged ∙ found_refused_plan counts corners p (kind_number f.refusal.kind) f.refusal.place f.zone w),
   )
     where
-      only : (r : Plan) → verdict_said r ≡ stops f.number f.place f.zone → r ≡ Refused f
-      only (Of claim) e = never (cc)
-      only (Refused g) e = ap Refused (refusal_once g f e)
+      only : (r : Result Claim ZoneRefusal) → verdict_said r ≡ stops (kind_number f.refusal.kind) f.refusal.place f.zone → r ≡ Err f
+      only (Ok claim) e = never (cc)
+      only (Err g) e = ap Err (zone_refusal_once g f e)
 
   -- a plan that is as long as counted, of zones that are answered, is answered for every accepted release
-  pub plan_answers : (r : Plan) → Counted counts corners → Accepted p → ((k : ℕ) → k < length counts → Answered (zone_at counts corners k) p)
-      → PlanSays counts corners p r → (claim : Claim) × (r ≡ Of claim)
+  pub plan_answers : (r : Result Claim ZoneRefusal) → Counted counts corners → Accepted p → ((k : ℕ) → k < length counts → Answered (zone_at counts corners k) p)
+      → PlanSays counts corners p r → (claim : Claim) × (r ≡ Ok claim)
   plan_answers r c a all says = only r (says.judged ∙ passes_judged counts corners p c a (λ k l. all k (omega (arith, length_zones counts corners))))
     where
-      only : (r : Plan) → verdict_said r ≡ passes → (claim : Claim) × (r ≡ Of claim)
-      only (Of claim) e = (claim, refl)
-      only (Refused f) e = never (cc)
+      only : (r : Result Claim ZoneRefusal) → verdict_said r ≡ passes → (claim : Claim) × (r ≡ Ok claim)
+      only (Ok claim) e = (claim, refl)
+      only (Err f) e = never (cc)
 
 -- ---- an accepted plan
-module _ (counts : List ℕ) (corners : List Float) (p : Point) (claim : Claim) (says : PlanSays counts corners p (Of claim)) where
+module _ (counts : List ℕ) (corners : List Float) (p : Point) (claim : Claim) (says : PlanSays counts corners p (Ok claim)) where
   abbrev pub places : List Lies
   places = places_in (zones_of counts corners) p
 
@@ -113,7 +114,7 @@ module _ (counts : List ℕ) (corners : List Float) (p : Point) (claim : Claim) 
   is_inside_lem inside e = refl
 
   -- on the border of zone k: `zone` answers border of its corners
-  pub plan_on : (k : ℕ) → On places k ↔ ((edge : ℕ) × ZoneSays (zone_at counts corners k) p (At (PlaceBorder edge)))
+  pub plan_on : (k : ℕ) → On places k ↔ ((edge : ℕ) × ZoneSays (zone_at counts corners k) p (Ok (PlaceBorder edge)))
   unfolding zone_said place_said
   plan_on k = (
     λ on. let (edge, e) = is_border (get_or places k outside) on in (edge, ap answers (sym e) ∙ sym (told_place k 1 on (omega arith))),
@@ -121,7 +122,7 @@ module _ (counts : List ℕ) (corners : List Float) (p : Point) (claim : Claim) 
   )
 
   -- inside zone k
-  pub plan_in : (k : ℕ) → In places k ↔ ZoneSays (zone_at counts corners k) p (At PlaceInside)
+  pub plan_in : (k : ℕ) → In places k ↔ ZoneSays (zone_at counts corners k) p (Ok PlaceInside)
   unfolding zone_said place_said
   plan_in k = (
     λ has. ap answers (sym (is_inside_lem (get_or places k outside) has)) ∙ sym (told_place k 2 has (omega arith)),
@@ -152,18 +153,21 @@ module _ (counts : List ℕ) (corners : List Float) (p : Point) (claim : Claim) 
       elim (lt_or_le k both.second) [ inl l ↦ inl (only k has l) | inr l ↦ inr (l, omega arith) ]
 
 -- an empty plan claims nothing
-pub plan_empty : (p : Point) (r : Plan) → Accepted p → PlanSays [] [] p r → r ≡ Of None
+pub plan_empty : (p : Point) (r : Result Claim ZoneRefusal) → Accepted p → PlanSays [] [] p r → r ≡ Ok None
 unfolding zones_of
 plan_empty p r a says =
     let (claim, e) = plan_answers [] [] p r (record { few = omega arith; exact = refl }) a (λ k l. let z : ⊥ = omega arith in absurd z) says in
-    e ∙ ap Of ((plan_iff [] [] p claim (subst (PlanSays [] [] p) e says) None).1 (λ k on. never (cc), λ k has. never (cc)))
+    e ∙ ap Ok ((plan_iff [] [] p claim (subst (PlanSays [] [] p) e says) None).1 (λ k on. never (cc), λ k has. never (cc)))
 
 -- ---- no two results satisfy the promise
+pub from_fixed : (refusal : Refusal) → Fixes (FromSays refusal)
+from_fixed refusal a b p q = p ∙ sym q
+
 pub plan_fixed : (counts : List ℕ) (corners : List Float) (p : Point) → Fixes (PlanSays counts corners p)
 plan_fixed counts corners p a b h g = go a b h g (h.judged ∙ sym g.judged)
   where
-    go : (a b : Plan) → PlanSays counts corners p a → PlanSays counts corners p b → verdict_said a ≡ verdict_said b → a ≡ b
-    go (Of c) (Of d) h g e = ap Of (holds_once (places_in (zones_of counts corners) p) c d h.claim g.claim)
-    go (Of c) (Refused f) h g e = never (cc)
-    go (Refused f) (Of d) h g e = never (cc)
-    go (Refused f) (Refused k) h g e = ap Refused (refusal_once f k e)
+    go : (a b : Result Claim ZoneRefusal) → PlanSays counts corners p a → PlanSays counts corners p b → verdict_said a ≡ verdict_said b → a ≡ b
+    go (Ok c) (Ok d) h g e = ap Ok (holds_once (places_in (zones_of counts corners) p) c d h.claim g.claim)
+    go (Ok c) (Err f) h g e = never (cc)
+    go (Err f) (Ok d) h g e = never (cc)
+    go (Err f) (Err k) h g e = ap Err (zone_refusal_once f k e)

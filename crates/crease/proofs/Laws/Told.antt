@@ -9,20 +9,21 @@ use native.Mathlib.Nat.{zero-add, add-zero}
 use native.Mathlib.Omega.{arith}
 use lib.Dec.{eqb}
 use lib.ListN.{length, drop, get_or}
-use lib.Ieee.{Float, nan}
+use lib.Ieee.{Float}
 use borrow.Author.Tests.{eqb-true, eqb-false, ne_eqb, eq-eqb}
 use Rattle.whole.proofs.Laws.Order.{lt_or_le}
 use Rattle.ground.specs.Zone.{Lies}
-use Rattle.refusal.specs.Outcome.{Outcome, answers, refuses}
-use Rattle.refusal.specs.Search.{IsFirst}
+use Rattle.refusal.specs.Outcome.{Outcome, answers, refuses, too_many, not_accepted, odd_length}
+use Rattle.refusal.specs.Search.{passing_from}
 use Rattle.refusal.proofs.Laws.Outcome.{never}
 use Rattle.point.specs.declared.Point.{Point}
-use Rattle.point.specs.Accepted.{accepted_of, Accepted}
+use Rattle.point.specs.Accepted.{Accepted}
 use Rattle.geometry.specs.Zone.{zone_of}
+use Rattle.geometry.proofs.Laws.Accepting.{accepting_refused, accepting_answered}
 use Rattle.geometry.proofs.Laws.Calls.{refused_found, found_refused}
-use Rattle.crease.specs.Plan.{most_zones, counted_in, zones_of, Verdict, passes, stops, beside, zones_judged, judging_of}
+use Rattle.crease.specs.Plan.{most_zones, counted_in, zones_of, Verdict, passes, stops, beside, point_judged, zones_judged, judging_of}
 use Rattle.crease.specs.Reasons.{zone_at, Counted, Answered, PlanRefusedAs, many, uncounted, point, zone}
-use Rattle.crease.proofs.Laws.Plan.{judged_many, judged_uncounted, judged_x, judged_y, judged_zones}
+use Rattle.crease.proofs.Laws.Plan.{judged_many, judged_uncounted, judged_point, judged_zones}
 
 -- ---- the zones
 pub length_zones : (counts : List ℕ) (corners : List Float) → length (zones_of counts corners) ≡ length counts
@@ -112,43 +113,35 @@ module _ (counts : List ℕ) (corners : List Float) (p : Point) where
   abbrev judgement : Verdict
   judgement = judging_of counts corners p
 
-  first_x : accepted_of p.x ≡ false → IsFirst accepted_of nan (p.x ∷ p.y ∷ []) 0
-  first_x e = record { inside = omega arith; fails = e; before = λ i l. let z : ⊥ = omega arith in absurd z }
-
-  first_y : accepted_of p.x ≡ true → accepted_of p.y ≡ false → IsFirst accepted_of nan (p.x ∷ p.y ∷ []) 1
-  first_y e f = record { inside = omega arith; fails = f; before = before }
-    where
-      before : (i : ℕ) → i < 1 → accepted_of (get_or (p.x ∷ p.y ∷ []) i nan) ≡ true
-      before zero l = e
-      before (suc i) l = let z : ⊥ = omega arith in absurd z
-
   module _ (c : Counted counts corners) where
     exact : eqb (length corners) (2 * counted_in counts) ≡ true
     exact = eq-eqb (length corners) (2 * counted_in counts) c.exact
 
     pub judged_accepted : Accepted p → judgement ≡ zones_judged 0 (zones_of counts corners) p
-    judged_accepted a = judged_zones counts corners p c.few exact a.x a.y
+    unfolding passing_from
+    judged_accepted a = judged_zones counts corners p c.few exact (rw (a.x, a.y))
 
   -- one of them, or the zones'
   split : (C : Type 0) → ((number place : ℕ) → PlanRefusedAs counts corners p number place 0 → judgement ≡ stops number place 0 → C)
       → (Counted counts corners → Accepted p → C) → C
   split C refused zones = elim (lt_or_le most_zones (length counts)) [
-    | inl l ↦ refused 1 0 (many l) (judged_many counts corners p l)
-    | inr few ↦ go few (eqb (length corners) (2 * counted_in counts)) refl (accepted_of p.x) refl (accepted_of p.y) refl
+    | inl l ↦ refused too_many 0 (many l) (judged_many counts corners p l)
+    | inr few ↦ go few (eqb (length corners) (2 * counted_in counts)) refl (point_judged p) refl
   ]
     where
-      go : length counts ≤ most_zones → (t : Bool) → eqb (length corners) (2 * counted_in counts) ≡ t → (x : Bool) → accepted_of p.x ≡ x
-          → (y : Bool) → accepted_of p.y ≡ y → C
-      go few false e x f y g =
-          refused 5 0 (uncounted few (eqb-false (length corners) (2 * counted_in counts) e)) (judged_uncounted counts corners p few e)
-      go few true e false f y g =
-          refused 3 0 (point (record { few = few; exact = eqb-true (length corners) (2 * counted_in counts) e }) 0 (first_x f))
-          (judged_x counts corners p few e f)
-      go few true e true f false g =
-          refused 3 1 (point (record { few = few; exact = eqb-true (length corners) (2 * counted_in counts) e }) 1 (first_y f g))
-          (judged_y counts corners p few e f g)
-      go few true e true f true g =
-          zones (record { few = few; exact = eqb-true (length corners) (2 * counted_in counts) e }) (record { x = f; y = g })
+      go : length counts ≤ most_zones → (t : Bool) → eqb (length corners) (2 * counted_in counts) ≡ t
+          → (o : Outcome Unit) → point_judged p ≡ o → C
+      go few false e o f =
+          refused odd_length 0 (uncounted few (eqb-false (length corners) (2 * counted_in counts) e)) (judged_uncounted counts corners p few e)
+      go few true e (refuses number place) f =
+          let (is, first) = (accepting_refused (p.x ∷ p.y ∷ []) tt number place).0 f in
+          let c : Counted counts corners = record { few = few; exact = eqb-true (length corners) (2 * counted_in counts) e } in
+          refused number place (subst (λ (n : ℕ). PlanRefusedAs counts corners p n place 0) (sym is) (point c place first))
+          (judged_point counts corners p few e f)
+      go few true e (answers u) f =
+          let all = accepting_answered (p.x ∷ p.y ∷ []) tt f in
+          zones (record { few = few; exact = eqb-true (length corners) (2 * counted_in counts) e })
+          (record { x = all 0 (omega arith); y = all 1 (omega arith) })
 
   -- not refused: as long as counted, the point accepted, and every zone answered
   pub judged_passes : judgement ≡ passes
@@ -184,10 +177,8 @@ module _ (counts : List ℕ) (corners : List Float) (p : Point) where
   found_refused_plan number place at (many l) = judged_many counts corners p l
   found_refused_plan number place at (uncounted few e) =
       judged_uncounted counts corners p few (ne_eqb (length corners) (2 * counted_in counts) e)
-  found_refused_plan number place at (point c zero first) = judged_x counts corners p c.few (exact c) first.fails
-  found_refused_plan number place at (point c (suc zero) first) =
-      judged_y counts corners p c.few (exact c) (first.before 0 (omega arith)) first.fails
-  found_refused_plan number place at (point c (suc (suc i)) first) = let z : ⊥ = omega (arith, first.inside) in absurd z
+  found_refused_plan number place at (point c k first) =
+      judged_point counts corners p c.few (exact c) ((accepting_refused (p.x ∷ p.y ∷ []) tt not_accepted k).1 (refl, first))
   found_refused_plan number place at (zone c a i l before m q w) =
       judged_accepted c a
       ∙ stop_zones p 0 (zones_of counts corners) i m q (record {

@@ -8,18 +8,20 @@ use native.Mathlib.Numerals.{add-one}
 use native.Mathlib.Omega.{arith}
 use lib.Dec.{eqb}
 use lib.ListN.{length, take, drop, get_or, length-drop, drop_of_length-le}
-use lib.Seq.{drop-cons, take_all}
+use lib.Seq.{drop-cons}
 use lib.Ieee.{Float}
 use borrow.Author.Tests.{eq-eqb, ne_eqb, eqb-true, eqb-false}
+use Rattle.std.specs.Prelude.{Err, Ok, Result, MatchResult, IsErrAnd}
+use Rattle.std.proofs.lemmas.Result.{err_from_is_err_and}
+use Rattle.refusal.specs.declared.Refusal.{Refusal}
 use Rattle.point.specs.declared.Point.{Point}
-use Rattle.geometry.specs.Zone.{zone_of}
+use Rattle.geometry.specs.Zone.{place_said, zone_said, zone_of}
+use Rattle.geometry.specs.declared.answer.Place.{Place}
 use Rattle.crease.specs.Plan.{counted_in, zones_of}
-use Rattle.crease.specs.Parts.{with_next, goes_on, folded_from}
+use Rattle.crease.specs.Parts.{Found, claims, found, with_zone, with_next, goes_on, folded_from}
 use Rattle.crease.specs.declared.answer.Claim.{Claim}
-use Rattle.crease.specs.declared.answer.Plan.{Plan}
 use Rattle.crease.specs.declared.answer.Claim.TheVariants.{None}
 use Rattle.crease.specs.declared.answer.ZoneRefusal.{ZoneRefusal}
-use Rattle.crease.specs.declared.answer.Plan.TheVariants.{Of, Refused}
 
 -- ---- what is left of a list, count by count
 next_of : {A : Type 0} (xs : List A) (k : ℕ) (none : A) → k < length xs → drop k xs ≡ get_or xs k none ∷ drop (k + 1) xs
@@ -56,6 +58,23 @@ counted_left counts k left l h =
     same_test left (counted_in (drop k counts)) (left - get_or counts k 0) (counted_in (drop (k + 1) counts))
     (λ e. omega (arith, counted_next counts k l)) (λ e. omega (arith, counted_next counts k l))
 
+-- ---- one zone
+-- the claim with zone k at this place, or the refusal
+abbrev pub found_next : Claim → ℕ → Result Place ZoneRefusal → Found
+found_next claim k (Ok place) = claims (with_zone claim k (place_said place))
+found_next claim k (Err r) = found (Err r)
+
+-- with the zone's number beside its refusal
+pub next_found : (claim : Claim) (k : ℕ) (z : Result Place Refusal) (m : Result Place ZoneRefusal) (Q : Refusal → ZoneRefusal → Type 0)
+    → ((f : Refusal) (r : ZoneRefusal) → Q f r → r ≡ record { refusal = f; zone = k })
+    → MatchResult z (λ place. m ≡ Ok place) (λ f. IsErrAnd m (Q f))
+    → found_next claim k m ≡ with_next claim k (zone_said z)
+unfolding zone_said
+next_found claim k (Ok place) m Q numbered e = ap (found_next claim k) e
+next_found claim k (Err f) m Q numbered h =
+    let (r, e, q) = err_from_is_err_and m h in
+    ap (found_next claim k) e ∙ ap (λ (r : ZoneRefusal). found (Err r)) (numbered f r q)
+
 -- ---- the zones from k on
 module _ (counts : List ℕ) (k : ℕ) (claim : Claim) (rest : List Float) (p : Point) where
   folded_next : k < length counts → folded_from k claim (zones_of (drop k counts) rest) p
@@ -64,7 +83,7 @@ module _ (counts : List ℕ) (k : ℕ) (claim : Claim) (rest : List Float) (p : 
   unfolding zones_of folded_from
   folded_next l = rw (next_of counts k 0 l) refl
 
-  folded_done : length counts ≤ k → folded_from k claim (zones_of (drop k counts) rest) p ≡ Of claim
+  folded_done : length counts ≤ k → folded_from k claim (zones_of (drop k counts) rest) p ≡ claims claim
   unfolding zones_of folded_from
   folded_done l = rw (drop_of_length-le counts l) refl
 
@@ -79,33 +98,29 @@ module _ (counts : List ℕ) (corners : List Float) (p : Point) (k : ℕ) (claim
     pub turn_fits : 2 * get_or counts k 0 ≤ length rest
     turn_fits = omega (arith, counted_next counts k l, turn.size)
 
-    goes : (z : Plan) → z ≡ with_next claim k (zone_of (take (2 * get_or counts k 0) rest) p)
+    goes : (z : Found) → z ≡ with_next claim k (zone_of (take (2 * get_or counts k 0) rest) p)
         → folded_from 0 None (zones_of counts corners) p
         ≡ goes_on z (λ more. folded_from (k + 1) more (zones_of (drop (k + 1) counts) (drop (2 * get_or counts k 0) rest)) p)
     goes z e =
         turn.same ∙ folded_next counts k claim rest p l
-        ∙ ap (λ (y : Plan). goes_on y (λ more. folded_from (k + 1) more (zones_of (drop (k + 1) counts) (drop (2 * get_or counts k 0) rest)) p)) (sym e)
+        ∙ ap (λ (y : Found). goes_on y (λ more. folded_from (k + 1) more (zones_of (drop (k + 1) counts) (drop (2 * get_or counts k 0) rest)) p)) (sym e)
 
-    pub turn_refused : (r : ZoneRefusal) → Refused r ≡ with_next claim k (zone_of (take (2 * get_or counts k 0) rest) p)
-        → Refused r ≡ folded_from 0 None (zones_of counts corners) p
-    turn_refused r e = sym (goes (Refused r) e)
+    pub turn_refused : (r : ZoneRefusal) → found (Err r) ≡ with_next claim k (zone_of (take (2 * get_or counts k 0) rest) p)
+        → found (Err r) ≡ folded_from 0 None (zones_of counts corners) p
+    turn_refused r e = sym (goes (found (Err r)) e)
 
     pub turn_next : (more : Claim) (left : List Float) → left ≡ drop (2 * get_or counts k 0) rest
-        → Of more ≡ with_next claim k (zone_of (take (2 * get_or counts k 0) rest) p) → Turn counts corners p (k + 1) more left
+        → found (Ok more) ≡ with_next claim k (zone_of (take (2 * get_or counts k 0) rest) p) → Turn counts corners p (k + 1) more left
     turn_next more left f e =
         let size : length left ≡ length rest - 2 * get_or counts k 0 = ap length f ∙ length-drop (2 * get_or counts k 0) rest in
         record {
-          same = goes (Of more) e ∙ ap (λ (xs : List Float). folded_from (k + 1) more (zones_of (drop (k + 1) counts) xs) p) (sym f);
+          same = goes (found (Ok more)) e ∙ ap (λ (xs : List Float). folded_from (k + 1) more (zones_of (drop (k + 1) counts) xs) p) (sym f);
           size = omega (arith, counted_next counts k l, turn.size, size);
           less = omega (arith, turn.less, size);
         }
 
-  pub turn_done : length counts ≤ k → Of claim ≡ folded_from 0 None (zones_of counts corners) p
+  pub turn_done : length counts ≤ k → found (Ok claim) ≡ folded_from 0 None (zones_of counts corners) p
   turn_done l = sym (turn.same ∙ folded_done counts k claim rest p l)
 
 pub turn_start : (counts : List ℕ) (corners : List Float) (p : Point) → length corners ≡ 2 * counted_in counts → Turn counts corners p 0 None corners
 turn_start counts corners p e = record { same = refl; size = e; less = omega arith }
-
--- the rest of a list, as a part of it
-pub rest_whole : (n : ℕ) (xs : List Float) → take (length xs - n) (drop n xs) ≡ drop n xs
-rest_whole n xs = take_all (length xs - n) (drop n xs) (omega (arith, length-drop n xs))

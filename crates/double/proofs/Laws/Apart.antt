@@ -3,29 +3,27 @@
 -- two results satisfy the promise; what it tells a caller. Assumes nothing.
 use mathlib.Core.Path.{◌≡◌, refl, sym, ap, ◌∙◌, subst}
 use mathlib.Core.Logic.{◌⊎◌, inl, inr, ◌↔◌}
-use mathlib.Core.Bool.{Bool, true, false, not, cond}
+use mathlib.Core.Bool.{Bool, true, false, cond}
 use Prim.Native.Nat.{ℕ, zero, suc, ◌+◌, ◌-◌, ◌*◌, ◌/◌, ◌%◌, ◌^◌, ◌≤◌, ◌<◌}
 use native.Mathlib.Nat.{le_trans, le_of_eq, le-div_iff_mul-le, div-mul_cancel}
 use native.Mathlib.Omega.{arith}
 use lib.Dec.{T, leb}
 use lib.IntN.{ℤ, pos, neg_ℤ}
 use lib.Pow.{pow_pos, pow-add}
-use lib.Ieee.{Float, nan, inf, fin, binary64, size, to_bits, fits, is_nan, ne}
-use lib.Ieee.Compare.{differs_from_itself}
+use lib.Ieee.{Float, nan, inf, fin, binary64, size, to_bits, fits}
 use lib.Ieee.Digits.{size_reaches, size-le}
 use lib.Ieee.Fits.{kept-lt}
 use lib.Ieee.Scale.{finite, overflow}
 use borrow.Author.Tests.{le-leb, lt-leb}
 use Rattle.double.specs.Worth.{mag, worth, of_units}
-use Rattle.refusal.specs.Outcome.{Outcome, answers, refuses, not_finite, Fixes}
+use Rattle.refusal.specs.Outcome.{Outcome, answers, refuses, not_finite, Fixes, kind_number}
 use Rattle.double.specs.Apart.{said, apart_of, TakenSays, exponent_of, significand_of, together}
 use Rattle.double.proofs.Laws.Digits.{Rep}
 use Rattle.double.proofs.Laws.Units.{Real, mag_lt, mag_rep, of_units_own}
-use Rattle.refusal.proofs.Laws.Outcome.{refuses_once}
+use Rattle.refusal.proofs.Laws.Outcome.{outcome_once}
 use Rattle.refusal.specs.declared.Refusal.{Refusal}
 use Rattle.double.specs.declared.answer.Parts.{Parts}
-use Rattle.double.specs.declared.answer.Taken.{Taken}
-use Rattle.double.specs.declared.answer.Taken.TheVariants.{Apart, Refused}
+use Rattle.std.specs.Prelude.{Err, Ok, Result}
 
 -- ---- the significand and the exponent of n units
 pub significand_below : (n : ℕ) → significand_of n < 2 ^ 53
@@ -88,17 +86,7 @@ finite_shows s m e t =
     let r : Real binary64 (fin s m e) = record { fin = tt; fit = t } in
     shows s (exponent_of n) (significand_of n) (exponent_most n (mag_lt binary64 (fin s m e) r)) (significand_below n) (exponent_least n)
 
--- an infinity's field is all ones
-infinite_field : (s : Bool) → to_bits binary64 (inf s) % 2 ^ 63 / 2 ^ 52 ≡ 2047
-unfolding to_bits
-infinite_field true = refl
-infinite_field false = refl
-
 module _ {s : Bool} {k q b : ℕ} (shown : Shows s k q b) where
-  -- its field is not that of the infinities
-  not_infinite : b % 2 ^ 63 / 2 ^ 52 ≡ 2047 → ⊥
-  not_infinite h = omega arith
-
   -- field 0: the digits are the significand
   hidden_none : b % 2 ^ 63 / 2 ^ 52 ≡ 0 → (b % 2 ^ 52 ≡ q) × (0 ≡ k)
   hidden_none h = (omega arith, omega arith)
@@ -124,34 +112,27 @@ refusal = refuses not_finite 0
 abbrev parts : Float → ℕ → ℕ → Outcome Parts
 parts x q k = answers (record { negative = leb (2 ^ 63) (to_bits binary64 x); significand = q; exponent = k })
 
--- only a NaN differs from itself
-pub nan_refused : (x : Float) → ne x x ≡ true → refusal ≡ apart_of x
+pub refused : (x : Float) → finite x ≡ false → refusal ≡ apart_of x
 unfolding apart_of
-nan_refused x h = ap apart_of (sym (differs_from_itself x (subst T (sym h) tt)))
+refused nan h = refl
+refused (inf s) h = refl
+refused (fin s m e) h = cc
 
-pub infinite_refused : (x : Float) → T (fits binary64 x) → T (not (is_nan x)) → field x ≡ 2047 → refusal ≡ apart_of x
-unfolding is_nan apart_of
-infinite_refused nan t u h = absurd u
-infinite_refused (inf s) t u h = refl
-infinite_refused (fin s m e) t u h = absurd (not_infinite (finite_shows s m e t) h)
-
-pub subnormal_parted : (x : Float) → T (fits binary64 x) → T (not (is_nan x)) → (field x ≡ 2047 → ⊥) → field x ≡ 0
-    → parts x (digits x) 0 ≡ apart_of x
-unfolding is_nan apart_of
-subnormal_parted nan t u g h = absurd u
-subnormal_parted (inf s) t u g h = absurd (g (infinite_field s))
-subnormal_parted (fin s m e) t u g h =
-    let p = finite_shows s m e t in
+pub subnormal_parted : (x : Float) → Real binary64 x → field x ≡ 0 → parts x (digits x) 0 ≡ apart_of x
+unfolding apart_of
+subnormal_parted nan r h = absurd r.fin
+subnormal_parted (inf s) r h = absurd r.fin
+subnormal_parted (fin s m e) r h =
+    let p = finite_shows s m e r.fit in
     let q = hidden_none p h in
     cc (p.sign_is, q.0, q.1)
 
-pub normal_parted : (x : Float) → T (fits binary64 x) → T (not (is_nan x)) → (field x ≡ 2047 → ⊥) → (field x ≡ 0 → ⊥)
-    → parts x (2 ^ 52 + digits x) (field x - 1) ≡ apart_of x
-unfolding is_nan apart_of
-normal_parted nan t u g h = absurd u
-normal_parted (inf s) t u g h = absurd (g (infinite_field s))
-normal_parted (fin s m e) t u g h =
-    let p = finite_shows s m e t in
+pub normal_parted : (x : Float) → Real binary64 x → (field x ≡ 0 → ⊥) → parts x (2 ^ 52 + digits x) (field x - 1) ≡ apart_of x
+unfolding apart_of
+normal_parted nan r h = absurd r.fin
+normal_parted (inf s) r h = absurd r.fin
+normal_parted (fin s m e) r h =
+    let p = finite_shows s m e r.fit in
     let q = hidden_one p h in
     cc (p.sign_is, q.0, q.1)
 
@@ -225,15 +206,9 @@ apart_refused (fin s m e) =
     ((λ h. let z : ◌≡◌ {A = ℕ} 0 1 = cc in let w : ⊥ = omega arith in absurd w), (λ h. absurd (subst T h tt)))
 
 -- no two results satisfy the promise
-said_once : (a b : Taken) → said a ≡ said b → a ≡ b
-unfolding said
-said_once (Apart p) (Apart q) e = cc
-said_once (Apart p) (Refused r) e = cc
-said_once (Refused r) (Apart q) e = cc
-said_once (Refused r) (Refused q) e = ap Refused (refuses_once r q e)
-
 pub take_apart_fixed : (x : Float) → Fixes (TakenSays x)
-take_apart_fixed x a b p q = said_once a b (p ∙ sym q)
+unfolding said
+take_apart_fixed x a b p q = outcome_once (λ p. p) (λ a b e. e) a b (p ∙ sym q)
 
 -- ---- what the promise tells a caller
 answers_finite : (x : Float) (p : Parts) → apart_of x ≡ answers p → finite x ≡ true
@@ -248,15 +223,15 @@ refuses_infinite nan n k h = refl
 refuses_infinite (inf s) n k h = refl
 refuses_infinite (fin s m e) n k h = cc
 
-module _ (x : Float) (r : Taken) (promise : said r ≡ apart_of x) where
-  pub taken_means : T (fits binary64 x) → (p : Parts) → r ≡ Apart p → Means x p
+module _ (x : Float) (r : Result Parts Refusal) (promise : said r ≡ apart_of x) where
+  pub taken_means : T (fits binary64 x) → (p : Parts) → r ≡ Ok p → Means x p
   unfolding said
   taken_means t p h = apart_means x t p (sym promise ∙ ap said h)
 
-  pub taken_finite : (p : Parts) → r ≡ Apart p → finite x ≡ true
+  pub taken_finite : (p : Parts) → r ≡ Ok p → finite x ≡ true
   unfolding said
   taken_finite p h = answers_finite x p (sym promise ∙ ap said h)
 
-  pub taken_refused : (q : Refusal) → r ≡ Refused q → finite x ≡ false
+  pub taken_refused : (q : Refusal) → r ≡ Err q → finite x ≡ false
   unfolding said
-  taken_refused q h = refuses_infinite x q.number q.place (sym promise ∙ ap said h)
+  taken_refused q h = refuses_infinite x (kind_number q.kind) q.place (sym promise ∙ ap said h)

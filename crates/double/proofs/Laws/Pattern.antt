@@ -4,11 +4,11 @@ use mathlib.Core.Path.{◌≡◌, refl, sym, ap, ◌∙◌, subst}
 use mathlib.Core.Bool.{Bool, true, false, not}
 use Prim.Native.Nat.{ℕ, ◌*◌, ◌%◌, ◌≤◌, ◌<◌}
 use lib.Dec.{T}
-use lib.Ieee.{Float, nan, inf, fin, binary64, is_nan, of_bits, to_bits, nan_bits, ones, hid, top, ne}
-use lib.Ieee.Compare.{differs_from_itself}
+use lib.Ieee.{Float, nan, inf, fin, binary64, is_nan, of_bits, to_bits, nan_bits, ones, hid, top}
 use lib.Ieee.Scale.{finite}
 use lib.Ieee.Bits.{nan_bits_is, nan_bits_above}
 use borrow.Author.Tests.{lt-ltb, le-ltb}
+use Rattle.std.specs.Float.{float_is_finite}
 use Rattle.refusal.specs.Outcome.{Fixes}
 use Rattle.double.specs.Pattern.{FromPatternSays, ToPatternSays}
 
@@ -29,16 +29,16 @@ number_pattern b h =
     subst (λ (t : Bool). T (not t)) (sym not_above) tt
 
 -- ---- the pattern of a double
--- only a NaN differs from itself
-pub nan_bits_lem : (x : Float) → ne x x ≡ true → 0x7FF8_0000_0000_0000 ≡ to_bits binary64 x
+pub nan_bits_lem : (x : Float) → is_nan x ≡ true → 0x7FF8_0000_0000_0000 ≡ to_bits binary64 x
 unfolding to_bits
-nan_bits_lem x h = ap (λ (x : Float). to_bits binary64 x) (sym (differs_from_itself x (subst T (sym h) tt)))
+nan_bits_lem x h = ap (λ (x : Float). to_bits binary64 x) (sym (is_nan_lem x h))
 
-pub number_of_itself : (x : Float) → ne x x ≡ false → T (not (is_nan x))
-unfolding ne is_nan
-number_of_itself nan h = absurd (subst T h tt)
-number_of_itself (inf s) h = tt
-number_of_itself (fin s m e) h = tt
+-- finite, as std says it
+pub finite_std : (x : Float) → float_is_finite x ≡ finite x
+unfolding float_is_finite
+finite_std nan = refl
+finite_std (inf s) = refl
+finite_std (fin s m e) = refl
 
 pub number_finite : (x : Float) → T (finite x) → T (not (is_nan x))
 unfolding is_nan

@@ -1,7 +1,7 @@
 -- The demands, of whatever keeps the promises of `side` and `zone`: nothing here speaks of how they work. In order: which sides are refused,
 -- with what place; an answered side: its sign, its steps; which zones are refused, with what number and place; an answered zone: border,
 -- inside, outside. A point that is handed in is made of doubles (`OfDoubles`). Assumes nothing.
-use mathlib.Core.Path.{◌≡◌, refl, sym, ap, ap₂, ◌∙◌, subst}
+use mathlib.Core.Path.{◌≡◌, refl, sym, ap, ◌∙◌, subst}
 use mathlib.Core.Bool.{Bool, true, false}
 use mathlib.Core.List.{List, ◌∷◌}
 use mathlib.Core.Logic.Iff
@@ -16,12 +16,12 @@ use lib.Ieee.{Float, nan}
 use borrow.Author.Tests.{eqb-true, eqb-false, leb-true, leb-false}
 use Rattle.whole.specs.Sign.{sgn}
 use Rattle.whole.proofs.Laws.Order.{lt_or_le}
-use Rattle.refusal.specs.Outcome.{answers, refuses, too_many, not_accepted, too_few_corners, odd_length}
-use Rattle.refusal.specs.Search.{AllPass, IsFirst}
+use Rattle.refusal.specs.Outcome.{answers, refuses, too_many, not_accepted, too_few_corners, odd_length, kind_number}
+use Rattle.refusal.specs.Search.{AllPass}
 use Rattle.refusal.specs.declared.Refusal.{Refusal}
-use Rattle.refusal.proofs.Laws.Outcome.{refuses_once, never, no_refusal}
+use Rattle.refusal.proofs.Laws.Outcome.{never, no_refusal, outcome_refused}
 use Rattle.refusal.proofs.Laws.Judged.{require_refused}
-use Rattle.refusal.proofs.Laws.Search.{passing_answered, passing_first, passing_refused}
+use Rattle.refusal.proofs.Laws.Search.{passing_answered, passing_first, passing_refused, passing_iff}
 use Rattle.point.specs.declared.Point.{Point}
 use Rattle.point.specs.Accepted.{reach, accepted_of, Accepted, OfDoubles}
 use Rattle.point.specs.Spot.{spot_of, determinant}
@@ -34,45 +34,30 @@ use Rattle.ground.proofs.Laws.Rule.{off_inside, off_outside, off_border_lem}
 use Rattle.geometry.specs.Zone.{fewest, most, corners_of, place_in, Zoned, place_said, zone_said, zone_of, ZoneSays}
 use Rattle.geometry.specs.Reasons.{SideRefusedAs, ZoneRefusedAs, odd, few, many, unaccepted, FirstOn, OffBorder, total_in}
 use Rattle.geometry.specs.declared.answer.Turn.{Turn}
-use Rattle.geometry.specs.declared.answer.Side.{Side}
-use Rattle.geometry.specs.declared.answer.Side.TheVariants.{Of, Refused}
 use Rattle.geometry.specs.declared.answer.Place.{Place}
 use Rattle.geometry.specs.declared.answer.Place.TheVariants.{Outside, Border, Inside}
-use Rattle.geometry.specs.declared.answer.Zone.{Zone}
-use Rattle.geometry.specs.declared.answer.Zone.TheVariants.{At, Refused as ZoneRefused}
 use Rattle.geometry.proofs.Laws.Side.{turn_sign, turn_steps, turn_steps_early, side_turn}
 use Rattle.geometry.proofs.Laws.Zone.{zone_odd, zone_small, zone_large, judged, place_once}
 use Rattle.geometry.proofs.Laws.Located.{located}
 use Rattle.geometry.proofs.Laws.Answered.{zone_answered, zoned_answers}
+use Rattle.std.specs.Prelude.{Err, Ok, Result}
 
 -- ---- which sides are refused: 3, at the first of the six coordinates that is not accepted
-pub side_refused : (p q r : Point) (s : Side) → SideSays p q r s
-    → (f : Refusal) → (s ≡ Refused f) ↔ SideRefusedAs p q r f.number f.place
+pub side_refused : (p q r : Point) (s : Result Turn Refusal) → SideSays p q r s
+    → (f : Refusal) → (s ≡ Err f) ↔ SideRefusedAs p q r (kind_number f.kind) f.place
 unfolding said side_of
-side_refused p q r s h f = (λ e. found (sym h ∙ ap said e), λ w. only s (h ∙ refused w))
-  where
-    found : side_of p q r ≡ refuses f.number f.place → SideRefusedAs p q r f.number f.place
-    found e =
-        let (number, (j, place, first)) = passing_refused accepted_of not_accepted nan (turn_of p q r) 0 (six_of p q r) f.number f.place e in
-        (number, subst (IsFirst accepted_of nan (six_of p q r)) (sym (place ∙ zero-add j)) first)
-
-    refused : SideRefusedAs p q r f.number f.place → side_of p q r ≡ refuses f.number f.place
-    refused (number, first) =
-        passing_first accepted_of not_accepted nan (turn_of p q r) 0 (six_of p q r) f.place first
-        ∙ ap₂ (λ (n k : ℕ). refuses n k) (sym number) (zero-add f.place)
-
-    only : (s : Side) → said s ≡ refuses f.number f.place → s ≡ Refused f
-    only (Of t) e = no_refusal (sym e)
-    only (Refused g) e = ap Refused (refuses_once g f e)
+side_refused p q r s h f =
+    let at = passing_iff accepted_of not_accepted nan (six_of p q r) (turn_of p q r) (kind_number f.kind) f.place in
+    (λ e. at.0 (sym h ∙ ap said e), λ w. outcome_refused turn_said s f (h ∙ at.1 w))
 
 -- accepted points are answered
-pub side_answers_lem : (p q r : Point) (s : Side) → Accepted p → Accepted q → Accepted r → SideSays p q r s → (t : Turn) × (s ≡ Of t)
+pub side_answers_lem : (p q r : Point) (s : Result Turn Refusal) → Accepted p → Accepted q → Accepted r → SideSays p q r s → (t : Turn) × (s ≡ Ok t)
 unfolding said
-side_answers_lem p q r (Of t) P Q R h = (t, refl)
-side_answers_lem p q r (Refused f) P Q R h = no_refusal (h ∙ sym (side_turn p q r P Q R))
+side_answers_lem p q r (Ok t) P Q R h = (t, refl)
+side_answers_lem p q r (Err f) P Q R h = no_refusal (h ∙ sym (side_turn p q r P Q R))
 
 -- ---- an answered side
-module _ (p q r : Point) (t : Turn) (P : OfDoubles p) (Q : OfDoubles q) (R : OfDoubles r) (h : SideSays p q r (Of t)) where
+module _ (p q r : Point) (t : Turn) (P : OfDoubles p) (Q : OfDoubles q) (R : OfDoubles r) (h : SideSays p q r (Ok t)) where
   passed : AllPass accepted_of nan (six_of p q r) × (turn_of p q r ≡ turn_said t)
   unfolding said side_of
   passed = passing_answered accepted_of not_accepted nan (turn_of p q r) 0 (six_of p q r) (turn_said t) (sym h)
@@ -152,23 +137,19 @@ module _ (xs : List Float) (p : Point) where
       sym (judged xs p (even_not h) least greatest)
       ∙ passing_first accepted_of not_accepted nan placed 0 (p.x ∷ p.y ∷ xs) place first ∙ ap (λ (i : ℕ). refuses not_accepted i) (zero-add place)
 
-pub zone_refused : (xs : List Float) (p : Point) (z : Zone) → ZoneSays xs p z
-    → (f : Refusal) → (z ≡ ZoneRefused f) ↔ ZoneRefusedAs xs p f.number f.place
+pub zone_refused : (xs : List Float) (p : Point) (z : Result Place Refusal) → ZoneSays xs p z
+    → (f : Refusal) → (z ≡ Err f) ↔ ZoneRefusedAs xs p (kind_number f.kind) f.place
 unfolding zone_said
 zone_refused xs p z h f = (
-  λ e. refused_found xs p f.number f.place (sym h ∙ ap zone_said e),
-  λ w. only z (h ∙ found_refused xs p f.number f.place w),
+  λ e. refused_found xs p (kind_number f.kind) f.place (sym h ∙ ap zone_said e),
+  λ w. outcome_refused place_said z f (h ∙ found_refused xs p (kind_number f.kind) f.place w),
 )
-  where
-    only : (z : Zone) → zone_said z ≡ refuses f.number f.place → z ≡ ZoneRefused f
-    only (At place) e = no_refusal (sym e)
-    only (ZoneRefused g) e = ap ZoneRefused (refuses_once g f e)
 
 -- a zone that breaks no rule is answered for every accepted point
-pub zone_answers_lem : (xs : List Float) (n : ℕ) (p : Point) (z : Zone) → Zoned xs n → Accepted p → ZoneSays xs p z → (place : Place) × (z ≡ At place)
+pub zone_answers_lem : (xs : List Float) (n : ℕ) (p : Point) (z : Result Place Refusal) → Zoned xs n → Accepted p → ZoneSays xs p z → (place : Place) × (z ≡ Ok place)
 unfolding zone_said
-zone_answers_lem xs n p (At place) zoned a h = (place, refl)
-zone_answers_lem xs n p (ZoneRefused f) zoned a h = no_refusal (h ∙ zoned_answers xs n p zoned a)
+zone_answers_lem xs n p (Ok place) zoned a h = (place, refl)
+zone_answers_lem xs n p (Err f) zoned a h = no_refusal (h ∙ zoned_answers xs n p zoned a)
 
 -- a truth is not both
 not_both : {A : Type 0} {b : Bool} → b ≡ true → b ≡ false → A
@@ -188,7 +169,7 @@ unfolding place_said
 place_border k = refl
 
 -- ---- an answered zone
-module _ (xs : List Float) (p : Point) (place : Place) (h : ZoneSays xs p (At place)) where
+module _ (xs : List Float) (p : Point) (place : Place) (h : ZoneSays xs p (Ok place)) where
   told : zone_of xs p ≡ answers (place_said place)
   unfolding zone_said
   told = sym h

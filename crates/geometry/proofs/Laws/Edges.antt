@@ -1,5 +1,5 @@
--- The edges of a zone. In order: edge k of a flat list of corners, and how many there are; a value between two ends; a point on an edge, and how an edge counts, by the comparisons and the sign.
--- Not here: all edges together (`Zone`), the sign itself (`Side`). Assumes nothing.
+-- The edges of a zone. In order: edge k of a flat list of corners, and how many there are; a value between two ends; a point on an edge, and how
+-- an edge counts, by the comparisons and the sign. Not here: all edges together (`Zone`), the sign itself (`Side`). Assumes nothing.
 use mathlib.Core.Path.{◌≡◌, refl, sym, ap, ap₂, ◌∙◌}
 use mathlib.Core.Bool.{Bool, true, false, not, cond, ◌&&◌, ◌||◌}
 use mathlib.Core.List.{List, [], ◌∷◌}
@@ -21,12 +21,12 @@ use Rattle.ground.specs.Edge.{Edge, edge, edges_from, edges_of, side_of_edge, be
 use Rattle.sum.specs.Total.{sign_number}
 use Rattle.sum.specs.declared.answer.Sign.{Sign}
 use Rattle.ground.proofs.Laws.Compare.{below_not, sgn_is_zero, sgn_is_positive, sgn_is_negative}
-use Rattle.geometry.specs.Parts.{lies_between, InBox, Rises, Falls, crossing_of}
+use Rattle.geometry.specs.Parts.{lies_between, crossing_of}
 use Rattle.geometry.specs.Zone.{points_of, corners_of, corner_at, next_of}
 use Rattle.geometry.proofs.Laws.Corners.{corners_count, corner_later}
 use Rattle.point.proofs.Laws.Worths.{RealPoint, le_worth, lt_worth}
-use Rattle.geometry.specs.declared.edges.Crossing.{Crossing}
-use Rattle.geometry.specs.declared.edges.Crossing.TheVariants.{None, Up, Down}
+use Rattle.geometry.specs.declared.answer.Crossing.{Crossing}
+use Rattle.geometry.specs.declared.answer.Crossing.TheVariants.{None, Up, Down}
 
 -- ---- corners and edges by number
 abbrev corner : Float → Float → Spot
@@ -103,16 +103,6 @@ edges_length xs n e = row_length (corners_of xs) ∙ corners_length xs n e
     row_length (a ∷ rest) = edges_from_length a a rest
 
 -- ---- between two ends
-module _ (a b v : Float) where
-  pub between_up : le a v ≡ true → le v b ≡ true → true ≡ lies_between a b v
-  between_up h k = rw (h, k)
-
-  pub between_down : (le a v && le v b) ≡ false → le b v ≡ true → le v a ≡ lies_between a b v
-  between_down h k = sym (ap₂ (λ (p q : Bool). p || (q && le v a)) h k)
-
-  pub between_not : (le a v && le v b) ≡ false → le b v ≡ false → false ≡ lies_between a b v
-  between_not h k = sym (ap₂ (λ (p q : Bool). p || (q && le v a)) h k)
-
 between_worth : (a b v : Float) → Real binary64 a → Real binary64 b → Real binary64 v
     → lies_between a b v ≡ between (worth a) (worth b) (worth v)
 between_worth a b v ra rb rv =
@@ -207,24 +197,24 @@ module _ (a b p : Point) (A : RealPoint a) (B : RealPoint b) (P : RealPoint p) w
 
   -- and the sign
   module _ (s : Sign) (told : sign_number s ≡ sgn (side_of_edge e z)) where
-    pub edge_met : InBox a b p → is_zero (sign_number s) ≡ on_edge e z
+    pub edge_met : lies_between a.y b.y p.y ≡ true → lies_between a.x b.x p.x ≡ true → is_zero (sign_number s) ≡ on_edge e z
     unfolding on_edge
-    edge_met h =
+    edge_met y x =
         let d = side_of_edge e z in
         first_decides (is_zero (sign_number s)) (is_zero d) (between e.from.x e.to.x z.x) (between e.from.y e.to.y z.y)
-        (ap is_zero told ∙ sgn_is_zero d) (sym x_between ∙ h.x) (sym y_between ∙ h.y)
+        (ap is_zero told ∙ sgn_is_zero d) (sym x_between ∙ x) (sym y_between ∙ y)
 
-    pub crossing_rising : Rises a b p → cond (is_positive (sign_number s)) Up None ≡ crossing_of e z
+    pub crossing_rising : le a.y p.y ≡ true → lt p.y b.y ≡ true → cond (is_positive (sign_number s)) Up None ≡ crossing_of e z
     unfolding is_up is_down
-    crossing_rising g =
-        let at : at_most e.from.y z.y ≡ true = sym from_worth ∙ g.from in
+    crossing_rising from to =
+        let at : at_most e.from.y z.y ≡ true = sym from_worth ∙ from in
         ap (λ (t : Bool). cond t Up None) (ap is_positive told ∙ sgn_is_positive (side_of_edge e z))
-        ∙ crossed_rising _ _ _ (at_most e.to.y z.y) _ (is_negative (side_of_edge e z)) at (sym under_worth ∙ g.to)
+        ∙ crossed_rising _ _ _ (at_most e.to.y z.y) _ (is_negative (side_of_edge e z)) at (sym under_worth ∙ to)
         (below_not e.from.y z.y ∙ ap not at)
 
-    pub crossing_falling : Falls a b p → cond (is_negative (sign_number s)) Down None ≡ crossing_of e z
+    pub crossing_falling : le a.y p.y ≡ false → le b.y p.y ≡ true → cond (is_negative (sign_number s)) Down None ≡ crossing_of e z
     unfolding is_up is_down
-    crossing_falling g =
-        let at : at_most e.from.y z.y ≡ false = sym from_worth ∙ g.from in
+    crossing_falling from to =
+        let at : at_most e.from.y z.y ≡ false = sym from_worth ∙ from in
         ap (λ (t : Bool). cond t Down None) (ap is_negative told ∙ sgn_is_negative (side_of_edge e z))
-        ∙ crossed_falling _ _ _ _ _ _ at (sym to_worth ∙ g.to) (below_not e.from.y z.y ∙ ap not at)
+        ∙ crossed_falling _ _ _ _ _ _ at (sym to_worth ∙ to) (below_not e.from.y z.y ∙ ap not at)

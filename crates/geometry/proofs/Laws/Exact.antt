@@ -11,24 +11,18 @@ use lib.ListN.{length}
 use lib.Ieee.{Float}
 use Rattle.whole.specs.Sign.{sgn}
 use Rattle.refusal.specs.Outcome.{Outcome, answers, refuses}
-use Rattle.refusal.specs.declared.Refusal.{Refusal}
 use Rattle.point.specs.declared.Point.{Point}
 use Rattle.point.specs.Accepted.{reach}
 use Rattle.point.specs.Spot.{determinant}
 use Rattle.point.proofs.Laws.Within.{Within}
 use Rattle.sum.specs.Limit.{limit}
-use Rattle.sum.specs.Total.{sign_number}
-use Rattle.sum.specs.Run.{most_budget, Told, run_of, RunSays}
-use Rattle.sum.specs.declared.answer.Sign.{Sign}
-use Rattle.sum.specs.declared.answer.Verdict.TheVariants.{Decided, Undecided}
-use Rattle.sum.specs.declared.answer.Ran.{Ran}
-use Rattle.sum.specs.declared.answer.Run.{Run}
-use Rattle.sum.specs.declared.answer.Run.TheVariants.{Done, Refused}
+use Rattle.sum.specs.Run.{most_budget, Told, run_of}
 use Rattle.sum.proofs.Laws.Calls.{settled_told}
+use Rattle.sum.proofs.Laws.Entries.{AllReal}
+use Rattle.geometry.specs.Plane.{Counted, counted_by}
 use Rattle.geometry.specs.Product.{summands_of}
 use Rattle.geometry.specs.Side.{Turned, turned, most_steps, by_run, exact_of}
 use Rattle.geometry.proofs.Laws.Summands.{summands_length, summands_real, summands_ceiling, summands_sign}
-use Rattle.geometry.proofs.Laws.ToTheEnd.{end_refused, end_undecided, end_decided}
 
 -- stage 3
 pub exact_stage : (p q r : Point) → (exact_of p q r).stage ≡ 3
@@ -61,19 +55,17 @@ module _ (p q r : Point) (P : Within reach p) (Q : Within reach q) (R : Within r
       subst (λ (n : ℕ). n ≤ most_steps) (sym (ap (λ (t : Turned). t.steps) exact_is))
       (le_trans (settled_told (summands_of p q r) (summands_real p q r P Q R) (summands_short p q r)).2 (summands_ceiling p q r P Q R))
 
--- ---- the code's run on the summands
-module _ (p q r : Point) (P : Within reach p) (Q : Within reach q) (R : Within reach r) {xs left : List Float} {v : Run}
-    (e : xs ≡ summands_of p q r) (says : RunSays xs most_budget v left) where
-  ran_says : RunSays (summands_of p q r) most_budget v left
-  ran_says = subst (λ (ys : List Float). RunSays ys most_budget v left) e says
+-- ---- what the code makes of a run to the end, on these summands
+by_run_counted : (o : Outcome Told) → turned (counted_by o).sign 3 (counted_by o).steps ≡ by_run o
+by_run_counted (answers t) = refl
+by_run_counted (refuses n place) = refl
 
-  pub exact_refused : {A : Type 0} {f : Refusal} → v ≡ Refused f → A
-  exact_refused = end_refused (summands_of p q r) (summands_real p q r P Q R) (summands_short p q r) ran_says
+module _ (p q r : Point) {xs : List Float} (e : xs ≡ summands_of p q r) where
+  pub exact_real : Within reach p → Within reach q → Within reach r → AllReal xs × (length xs ≤ limit)
+  exact_real P Q R = rw e (summands_real p q r P Q R, summands_short p q r)
 
-  pub exact_undecided : {A : Type 0} {ran : Ran} → v ≡ Done ran → ran.verdict ≡ Undecided → A
-  exact_undecided = end_undecided (summands_of p q r) (summands_real p q r P Q R) (summands_short p q r) ran_says
-
-  pub exact_decided : {ran : Ran} {s : Sign} → v ≡ Done ran → ran.verdict ≡ Decided s
-      → turned (sign_number s) 3 ran.steps ≡ exact_of p q r
+  pub exact_counted : {t : Counted} → t ≡ counted_by (run_of xs most_budget) → turned t.sign 3 t.steps ≡ exact_of p q r
   unfolding exact_of
-  exact_decided d g = ap by_run (end_decided (summands_of p q r) (summands_real p q r P Q R) (summands_short p q r) ran_says d g)
+  exact_counted {t} d =
+      ap (λ (t : Counted). turned t.sign 3 t.steps) d ∙ by_run_counted (run_of xs most_budget)
+      ∙ ap (λ (ys : List Float). by_run (run_of ys most_budget)) e

@@ -7,7 +7,7 @@ use native.Mathlib.Omega.{arith}
 use lib.Dec.{eqb, leb}
 use lib.ListN.{length}
 use lib.Ieee.{Float}
-use Rattle.refusal.specs.Outcome.{Outcome, answers, refuses, too_many, not_accepted, too_few_corners, odd_length}
+use Rattle.refusal.specs.Outcome.{Outcome, answers, refuses, too_many, not_accepted, too_few_corners, odd_length, kind_number}
 use Rattle.refusal.specs.Search.{passing_from}
 use Rattle.refusal.proofs.Laws.Judged.{require_either}
 use Rattle.refusal.specs.declared.Refusal.{Refusal}
@@ -16,8 +16,7 @@ use Rattle.point.specs.Accepted.{accepted_of, accepting_from}
 use Rattle.geometry.specs.Side.{Turned, turn_of, six_of, side_of, said, SideSays}
 use Rattle.geometry.specs.Zone.{ZoneSays, fewest, most, place_in, zone_of, zone_said}
 use Rattle.ground.specs.Zone.{Lies}
-use Rattle.geometry.specs.declared.answer.Side.TheVariants.{Refused as SideRefused}
-use Rattle.geometry.specs.declared.answer.Zone.TheVariants.{Refused as ZoneRefused}
+use Rattle.std.specs.Prelude.{Err}
 
 cond_holds : {A : Type 0} (P : A → Type 0) (b : Bool) (x y : A) → P x → P y → P (cond b x y)
 cond_holds P true x y h k = h
@@ -56,7 +55,7 @@ Tabled (refuses n place) = n ≤ 9
 side_tabled : (p q r : Point) → Tabled (side_of p q r)
 side_tabled p q r = side_outcomes (λ (o : Outcome Turned). Tabled o) (λ t. tt) (λ place. omega arith) p q r
 
-pub side_refusal : (n : Refusal) (p q r : Point) → SideSays p q r (SideRefused n) → n.number ≤ 9
+pub side_refusal : (n : Refusal) (p q r : Point) → SideSays p q r (Err n) → (kind_number n.kind) ≤ 9
 unfolding said
 side_refusal n p q r e = rw (← e) at (side_tabled p q r)
 
@@ -64,6 +63,6 @@ zone_tabled : (corners : List Float) (p : Point) → Tabled (zone_of corners p)
 zone_tabled corners p =
     zone_outcomes (λ (o : Outcome Lies). Tabled o) (λ place. tt) (omega arith) (omega arith) (omega arith) (λ place. omega arith) corners p
 
-pub zone_refusal : (n : Refusal) (corners : List Float) (p : Point) → ZoneSays corners p (ZoneRefused n) → n.number ≤ 9
+pub zone_refusal : (n : Refusal) (corners : List Float) (p : Point) → ZoneSays corners p (Err n) → (kind_number n.kind) ≤ 9
 unfolding zone_said
 zone_refusal n corners p e = rw (← e) at (zone_tabled corners p)

@@ -2,16 +2,18 @@
 -- refused, and that otherwise the turn is answered; no two results satisfy the promise of `side`.
 -- Not here: why stages 1 and 2 are right (`Filter` of crate side_filter), and stage 3 (`Exact`). Assumes nothing.
 use mathlib.Core.Path.{◌≡◌, refl, sym, ap, ap₂, ◌∙◌, subst}
-use mathlib.Core.Bool.{Bool, true, false, not}
 use Prim.Native.Nat.{ℕ, ◌≤◌, ◌<◌, zero-le}
 use native.Mathlib.Nat.{lt_irrefl}
+use native.Mathlib.Omega.{arith}
+use lib.Ieee.{nan}
 use Rattle.whole.specs.Sign.{sgn}
 use Rattle.whole.proofs.Laws.Sign.{sgn_positive, sgn_zero, sgn_negative}
 use Rattle.refusal.specs.Outcome.{answers, refuses, not_accepted, Fixes}
 use Rattle.refusal.specs.Search.{passing_from}
-use Rattle.refusal.proofs.Laws.Outcome.{refuses_once}
+use Rattle.refusal.proofs.Laws.Search.{passing_answered, failing_other}
+use Rattle.refusal.proofs.Laws.Outcome.{outcome_once}
 use Rattle.point.specs.declared.Point.{Point}
-use Rattle.point.specs.Accepted.{reach, accepted_of, Accepted}
+use Rattle.point.specs.Accepted.{reach, accepted_of, accepting_from, Accepted}
 use Rattle.point.specs.Spot.{determinant}
 use Rattle.point.proofs.Laws.Within.{Within}
 use Rattle.sum.specs.Total.{sign_number}
@@ -21,11 +23,11 @@ use Rattle.side_filter.specs.declared.answer.Early.{Early}
 use Rattle.side_filter.specs.declared.answer.Early.TheVariants.{Level, Plus, Minus, Open}
 use Rattle.side_filter.specs.Filter.{filter_of, Sure}
 use Rattle.side_filter.proofs.Laws.Filter.{filter_sure}
-use Rattle.geometry.specs.Side.{Turned, most_steps, exact_of, by_stage, turn_of, turn_said, said, side_of, SideSays}
+use Rattle.geometry.specs.Side.{Turned, most_steps, exact_of, by_stage, turn_of, turn_said, said, six_of, side_of, SideSays}
 use Rattle.geometry.specs.declared.answer.Turn.{Turn}
-use Rattle.geometry.specs.declared.answer.Side.{Side}
-use Rattle.geometry.specs.declared.answer.Side.TheVariants.{Of, Refused}
 use Rattle.geometry.proofs.Laws.Exact.{exact_sign, exact_steps, exact_stage}
+use Rattle.refusal.specs.declared.Refusal.{Refusal}
+use Rattle.std.specs.Prelude.{Result}
 
 -- ---- the sign
 module _ (p q r : Point) (P : Within reach p) (Q : Within reach q) (R : Within reach r) where
@@ -73,52 +75,23 @@ module _ (p q r : Point) where
       go Minus h = refl
       go Open h = absurd (lt_irrefl 3 (subst (λ (n : ℕ). n < 3) (exact_stage p q r) h))
 
--- the code's test of a coordinate
-pub refused_by : {b a : Bool} → b ≡ a → not b ≡ true → a ≡ false
-refused_by {b} e h = sym e ∙ go b h
-  where
-    go : (b : Bool) → not b ≡ true → b ≡ false
-    go true h = sym h
-    go false h = refl
-
-pub passed_by : {b a : Bool} → b ≡ a → not b ≡ false → a ≡ true
-passed_by {b} e h = sym e ∙ go b h
-  where
-    go : (b : Bool) → not b ≡ false → b ≡ true
-    go true h = refl
-    go false h = sym h
-
 -- ---- a side is refused 3 only, at 0 to 5 for px, py, qx, qy, rx, ry
 module _ (p q r : Point) where
-  pub side_px : accepted_of p.x ≡ false → refuses not_accepted 0 ≡ side_of p q r
+  pub six_accepted : {a : Unit {0}} → accepting_from 0 (six_of p q r) (tt {0}) ≡ answers a → Accepted p × Accepted q × Accepted r
+  six_accepted e =
+      let all = (passing_answered accepted_of not_accepted nan tt 0 (six_of p q r) _ e).0 in (
+        record { x = all 0 (omega arith); y = all 1 (omega arith) },
+        record { x = all 2 (omega arith); y = all 3 (omega arith) },
+        record { x = all 4 (omega arith); y = all 5 (omega arith) },
+      )
+
+  pub six_refused : {number place : ℕ} → accepting_from 0 (six_of p q r) (tt {0}) ≡ refuses number place → refuses number place ≡ side_of p q r
+  unfolding side_of
+  six_refused e = sym (failing_other accepted_of not_accepted 0 nan (six_of p q r) tt (turn_of p q r) e)
+
+  pub side_turn : Accepted p → Accepted q → Accepted r → answers (turn_of p q r) ≡ side_of p q r
   unfolding side_of passing_from
-  side_px e = rw e
-
-  pub side_py : accepted_of p.x ≡ true → accepted_of p.y ≡ false → refuses not_accepted 1 ≡ side_of p q r
-  unfolding side_of passing_from
-  side_py a e = rw (a, e)
-
-  module _ (P : Accepted p) where
-    pub side_qx : accepted_of q.x ≡ false → refuses not_accepted 2 ≡ side_of p q r
-    unfolding side_of passing_from
-    side_qx e = rw (P.x, P.y, e)
-
-    pub side_qy : accepted_of q.x ≡ true → accepted_of q.y ≡ false → refuses not_accepted 3 ≡ side_of p q r
-    unfolding side_of passing_from
-    side_qy a e = rw (P.x, P.y, a, e)
-
-    module _ (Q : Accepted q) where
-      pub side_rx : accepted_of r.x ≡ false → refuses not_accepted 4 ≡ side_of p q r
-      unfolding side_of passing_from
-      side_rx e = rw (P.x, P.y, Q.x, Q.y, e)
-
-      pub side_ry : accepted_of r.x ≡ true → accepted_of r.y ≡ false → refuses not_accepted 5 ≡ side_of p q r
-      unfolding side_of passing_from
-      side_ry a e = rw (P.x, P.y, Q.x, Q.y, a, e)
-
-      pub side_turn : Accepted r → answers (turn_of p q r) ≡ side_of p q r
-      unfolding side_of passing_from
-      side_turn R = rw (P.x, P.y, Q.x, Q.y, R.x, R.y)
+  side_turn P Q R = rw (P.x, P.y, Q.x, Q.y, R.x, R.y)
 
 -- ---- no two results satisfy the promise
 turn_once : (a b : Turn) → turn_said a ≡ turn_said b → a ≡ b
@@ -129,12 +102,6 @@ turn_once a b e =
     ap₂ (λ (s : Sign) (n : ℕ). let t : Turn = record { sign = s; stage = n; steps = a.steps } in t) s n
     ∙ ap (λ (k : ℕ). let t : Turn = record { sign = b.sign; stage = b.stage; steps = k } in t) k
 
-said_once : (a b : Side) → said a ≡ said b → a ≡ b
+pub side_fixed : (p q r : Point) → Fixes (λ (s : Result Turn Refusal). SideSays p q r s)
 unfolding said
-said_once (Of a) (Of b) e = ap Of (turn_once a b (cc))
-said_once (Of a) (Refused b) e = cc
-said_once (Refused a) (Of b) e = cc
-said_once (Refused a) (Refused b) e = ap Refused (refuses_once a b e)
-
-pub side_fixed : (p q r : Point) → Fixes (λ (s : Side). SideSays p q r s)
-side_fixed p q r a b e f = said_once a b (e ∙ sym f)
+side_fixed p q r a b e f = outcome_once turn_said turn_once a b (e ∙ sym f)

@@ -10,12 +10,12 @@ use lib.Dec.{T, eqb, leb, ltb}
 use lib.ListN.{length, drop, length-drop, drop_of_length-le}
 use lib.Ieee.{Float, nan}
 use borrow.Author.Tests.{ltb-true, le-leb, lt-leb, eq-eqb, ne_eqb}
-use Rattle.refusal.specs.Outcome.{Outcome, answers, refuses, Fixes, too_many, not_accepted, too_few_corners, odd_length}
+use Rattle.refusal.specs.Outcome.{Outcome, answers, refuses, Fixes, too_many, not_accepted, too_few_corners, odd_length, kind_number}
 use Rattle.refusal.specs.declared.Refusal.{Refusal}
 use Rattle.refusal.specs.Search.{passing_from, AllPass}
 use Rattle.refusal.specs.Judged.{require, also}
 use Rattle.refusal.proofs.Laws.Judged.{require_holds, require_fails}
-use Rattle.refusal.proofs.Laws.Outcome.{refuses_once}
+use Rattle.refusal.proofs.Laws.Outcome.{outcome_once}
 use Rattle.refusal.proofs.Laws.Search.{passing_answered, passing_other, failing_other}
 use Rattle.point.specs.declared.Point.{Point}
 use Rattle.point.specs.Accepted.{accepted_of, accepting_from, Accepted}
@@ -25,16 +25,14 @@ use Rattle.ground.specs.Edge.{Edge, edge, edges_of, on_edge, is_up, is_down}
 use Rattle.ground.specs.Zone.{count_of, tally_of, Lies, outside, border, inside, off_border, walk, place_of}
 use Rattle.ground.proofs.Laws.Edges.{crossing_once}
 use Rattle.ground.proofs.Laws.Rule.{off_equal, off_unequal}
-use Rattle.geometry.specs.Zone.{fewest, most, corners_of, place_in, corner_at, next_of, Zoned, place_said, zone_said, zone_of, ZoneSays}
-use Rattle.geometry.specs.Parts.{crossing_of, with_edge, counts_of, corners_fault, fault_said}
-use Rattle.geometry.specs.declared.edges.Crossing.TheVariants.{None, Up, Down}
+use Rattle.geometry.specs.Zone.{fewest, most, corners_of, place_in, corner_at, next_of, NextSays, Zoned, place_said, zone_said, zone_of, ZoneSays}
+use Rattle.geometry.specs.Parts.{crossing_of, with_edge, counts_of}
+use Rattle.geometry.specs.declared.answer.Crossing.TheVariants.{None, Up, Down}
 use Rattle.geometry.specs.declared.zones.Counts.{Counts}
-use Rattle.geometry.specs.declared.zones.Fault.TheVariants.{None as FaultNone, At as FaultAt}
 use Rattle.geometry.specs.declared.answer.Place.{Place}
 use Rattle.geometry.specs.declared.answer.Place.TheVariants.{Outside, Border, Inside}
-use Rattle.geometry.specs.declared.answer.Zone.{Zone}
-use Rattle.geometry.specs.declared.answer.Zone.TheVariants.{At, Refused}
 use Rattle.geometry.proofs.Laws.Edges.{edges_drop, edges_length}
+use Rattle.std.specs.Prelude.{Err, Ok, Result}
 
 -- ---- the count
 -- an edge adds to one count, or to none
@@ -136,8 +134,7 @@ module _ (xs : List Float) (n : ℕ) (p : Point) (size : length xs ≡ 2 * n) wh
 
 -- a zone that is not refused
 pub zone_zoned : (xs : List Float) → (length xs % 2 ≡ 1 → ⊥) → fewest ≤ length xs / 2 → length xs / 2 ≤ most
-    → fault_said FaultNone ≡ corners_fault xs → Zoned xs (length xs / 2)
-unfolding fault_said
+    → answers (tt {0}) ≡ accepting_from 2 xs tt → Zoned xs (length xs / 2)
 zone_zoned xs even some few h = record {
   corners = omega arith;
   some = some;
@@ -211,12 +208,12 @@ module _ (xs : List Float) (p : Point) where
               let e : accepting_from 2 xs placed ≡ accepting_from 0 (p.x ∷ p.y ∷ xs) placed = rw (point.x, point.y) in
               e ∙ judged
 
-          pub zone_corner : (r : Refusal) → fault_said (FaultAt r) ≡ corners_fault xs → ZoneSays xs p (Refused r)
-          unfolding fault_said zone_said
+          pub zone_corner : (r : Refusal) → refuses (kind_number r.kind) r.place ≡ accepting_from 2 xs (tt {0}) → ZoneSays xs p (Err r)
+          unfolding zone_said
           zone_corner r h = sym (failing_other accepted_of not_accepted 2 nan xs tt placed (sym h)) ∙ corners_judged
 
-          pub zone_place : fault_said FaultNone ≡ corners_fault xs → (place : Place) → place_said place ≡ placed → ZoneSays xs p (At place)
-          unfolding fault_said zone_said
+          pub zone_place : answers (tt {0}) ≡ accepting_from 2 xs tt → (place : Place) → place_said place ≡ placed → ZoneSays xs p (Ok place)
+          unfolding zone_said
           zone_place h place e = ap answers e ∙ sym (passing_other accepted_of not_accepted 2 nan xs tt placed (sym h)) ∙ corners_judged
 
 -- ---- no two results satisfy the promise
@@ -232,12 +229,9 @@ place_once Inside Outside e = cc
 place_once Inside (Border k) e = cc
 place_once Inside Inside e = refl
 
-said_once : (a b : Zone) → zone_said a ≡ zone_said b → a ≡ b
+pub zone_fixed : (xs : List Float) (p : Point) → Fixes (λ (z : Result Place Refusal). ZoneSays xs p z)
 unfolding zone_said
-said_once (At m) (At n) e = ap At (place_once m n (cc))
-said_once (At m) (Refused r) e = cc
-said_once (Refused r) (At n) e = cc
-said_once (Refused r) (Refused q) e = ap Refused (refuses_once r q e)
+zone_fixed xs p a b h k = outcome_once place_said place_once a b (h ∙ sym k)
 
-pub zone_fixed : (xs : List Float) (p : Point) → Fixes (λ (z : Zone). ZoneSays xs p z)
-zone_fixed xs p a b h k = said_once a b (h ∙ sym k)
+pub next_of_fixed : (n k : ℕ) → Fixes (NextSays n k)
+next_of_fixed n k a b p q = p ∙ sym q

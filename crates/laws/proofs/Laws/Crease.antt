@@ -22,21 +22,20 @@ use Rattle.point.specs.Spot.{spot_of}
 use Rattle.geometry.specs.Zone.{place_in, place_said, zone_said, ZoneSays}
 use Rattle.geometry.specs.declared.answer.Place.{Place}
 use Rattle.geometry.specs.declared.answer.Place.TheVariants.{Outside, Border as PlaceBorder, Inside}
-use Rattle.geometry.specs.declared.answer.Zone.{Zone}
-use Rattle.geometry.specs.declared.answer.Zone.TheVariants.{At, Refused as ZoneRefused}
 use Rattle.geometry.proofs.Laws.Answered.{zone_answered}
 use Rattle.crease.specs.Claim.{Holds}
 use Rattle.crease.specs.Plan.{counted_in, zones_of, places_in, PlanSays}
 use Rattle.crease.specs.Reasons.{zone_at, Answered, word_of}
 use Rattle.crease.specs.declared.answer.Claim.{Claim}
 use Rattle.crease.specs.declared.answer.Claim.TheVariants.{Border, Alone}
-use Rattle.crease.specs.declared.answer.Plan.{Plan}
-use Rattle.crease.specs.declared.answer.Plan.TheVariants.{Of}
 use Rattle.crease.proofs.Laws.Words.{word_permuted}
 use Rattle.crease.proofs.Laws.Told.{length_zones}
 use Rattle.crease.proofs.Laws.Calls.{plan_counted, plan_accepted, plan_zone, plan_answers, plan_on, plan_in, plan_iff, plan_border}
 use Rattle.laws.specs.Plans.{counts_of, joined_of, EdgeOf, SharedEdge}
 use Rattle.laws.proofs.Laws.Zones.{zone_edge, number_border}
+use Rattle.crease.specs.declared.answer.ZoneRefusal.{ZoneRefusal}
+use Rattle.refusal.specs.declared.Refusal.{Refusal}
+use Rattle.std.specs.Prelude.{Err, Ok, Result}
 
 -- ---- zones that are answered, in whatever order
 abbrev Every : List (List Float) → Point → Type 0
@@ -103,7 +102,7 @@ apart_joined (count ∷ counts) corners e =
     )
 
 -- ---- an accepted plan
-module _ (counts : List ℕ) (corners : List Float) (p : Point) (claim : Claim) (says : PlanSays counts corners p (Of claim)) where
+module _ (counts : List ℕ) (corners : List Float) (p : Point) (claim : Claim) (says : PlanSays counts corners p (Ok claim)) where
   abbrev zones : List (List Float)
   zones = zones_of counts corners
 
@@ -111,8 +110,8 @@ module _ (counts : List ℕ) (corners : List Float) (p : Point) (claim : Claim) 
   all = every p zones (λ k l. plan_zone counts corners p claim says k (omega (arith, length_zones counts corners)))
 
   -- its zones put together in any other order: answered, with the same of the four
-  pub plan_order : (others : List (List Float)) (r : Plan) → Permᴰ zones others → PlanSays (counts_of others) (joined_of others) p r
-      → (other : Claim) × (r ≡ Of other) × (word_of other ≡ word_of claim)
+  pub plan_order : (others : List (List Float)) (r : Result Claim ZoneRefusal) → Permᴰ zones others → PlanSays (counts_of others) (joined_of others) p r
+      → (other : Claim) × (r ≡ Ok other) × (word_of other ≡ word_of claim)
   plan_order others r perm h =
       let good = every_permuted p zones others perm all in
       let apart = joined_zones p others good in
@@ -139,7 +138,7 @@ module _ (counts : List ℕ) (corners : List Float) (p : Point) (claim : Claim) 
   placed (border k) = (PlaceBorder k, refl)
   placed inside = (Inside, refl)
 
-  zone_placed : (k : ℕ) → k < length counts → (place : Place) × ZoneSays (zone_at counts corners k) p (At place)
+  zone_placed : (k : ℕ) → k < length counts → (place : Place) × ZoneSays (zone_at counts corners k) p (Ok place)
   unfolding zone_said
   zone_placed k l =
       let (lies, e) = plan_zone counts corners p claim says k l in
@@ -153,7 +152,7 @@ module _ (counts : List ℕ) (corners : List Float) (p : Point) (claim : Claim) 
       let (place, zone) = zone_placed k l in
       let (edge, b) = number_border place (zone_edge (zone_at counts corners k) p place e listed on zone) in
       plan_border counts corners p claim says k
-      ((plan_on counts corners p claim says k).1 (edge, subst (λ (m : Place). ZoneSays (zone_at counts corners k) p (At m)) b zone))
+      ((plan_on counts corners p claim says k).1 (edge, subst (λ (m : Place). ZoneSays (zone_at counts corners k) p (Ok m)) b zone))
 
   -- on an edge that zones j and k share, whichever way each runs and whichever corner is first: border, with a zone above neither, and never alone
   pub plan_shared_edge : (j k : ℕ) → j < length counts → k < length counts → (e : Edge) → SharedEdge counts corners j k e
@@ -170,16 +169,16 @@ module _ (counts : List ℕ) (corners : List Float) (p : Point) (claim : Claim) 
       second (inr listed) = plan_edge k m (turned_round e) listed (on_round e (spot_of p) ∙ on)
 
   -- alone in zone k: `zone` answers inside of it, and outside of every other zone of the plan
-  pub plan_alone : (k : ℕ) → claim ≡ Alone k → ZoneSays (zone_at counts corners k) p (At Inside)
-      × ((i : ℕ) → i < length counts → ¬ (i ≡ k) → (z : Zone) → ZoneSays (zone_at counts corners i) p z → z ≡ At Outside)
+  pub plan_alone : (k : ℕ) → claim ≡ Alone k → ZoneSays (zone_at counts corners k) p (Ok Inside)
+      × ((i : ℕ) → i < length counts → ¬ (i ≡ k) → (z : Result Place Refusal) → ZoneSays (zone_at counts corners i) p z → z ≡ Ok Outside)
   unfolding zone_said
   plan_alone k e = ((plan_in counts corners p claim says k).0 alone.1, λ i l apart z. go i l apart z)
     where
       alone : Holds (Alone k) (places_in zones p)
       alone = (plan_iff counts corners p claim says (Alone k)).0 e
 
-      go : (i : ℕ) → i < length counts → ¬ (i ≡ k) → (z : Zone) → ZoneSays (zone_at counts corners i) p z → z ≡ At Outside
-      go i l apart (At Outside) zone = refl
-      go i l apart (At (PlaceBorder edge)) zone = absurd (alone.0 i ((plan_on counts corners p claim says i).1 (edge, zone)))
-      go i l apart (At Inside) zone = absurd (apart (alone.2 i ((plan_in counts corners p claim says i).1 zone)))
-      go i l apart (ZoneRefused f) zone = no_refusal (zone ∙ (plan_zone counts corners p claim says i l).1)
+      go : (i : ℕ) → i < length counts → ¬ (i ≡ k) → (z : Result Place Refusal) → ZoneSays (zone_at counts corners i) p z → z ≡ Ok Outside
+      go i l apart (Ok Outside) zone = refl
+      go i l apart (Ok (PlaceBorder edge)) zone = absurd (alone.0 i ((plan_on counts corners p claim says i).1 (edge, zone)))
+      go i l apart (Ok Inside) zone = absurd (apart (alone.2 i ((plan_in counts corners p claim says i).1 zone)))
+      go i l apart (Err f) zone = no_refusal (zone ∙ (plan_zone counts corners p claim says i l).1)

@@ -16,13 +16,13 @@ use Rattle.geometry.specs.Zone.{corners_of, ZoneSays}
 use Rattle.geometry.specs.Reasons.{total_in}
 use Rattle.geometry.specs.declared.answer.Place.{Place}
 use Rattle.geometry.specs.declared.answer.Place.TheVariants.{Outside, Border, Inside}
-use Rattle.geometry.specs.declared.answer.Zone.TheVariants.{At}
 use Rattle.geometry.proofs.Laws.Calls.{place_inside, place_outside, place_border}
 use Rattle.laws.proofs.Laws.Zones.{number, number_inside, number_outside, number_border, OffBorder, off_number, zone_number}
+use Rattle.std.specs.Prelude.{Ok}
 
 -- ---- the three zones: one, two, and the outline of both together
 module _ (xs ys zs : List Float) (p : Point) (l m o : Place) (j : Joined (corners_of xs) (corners_of ys) (corners_of zs))
-    (h : ZoneSays xs p (At l)) (k : ZoneSays ys p (At m)) (i : ZoneSays zs p (At o)) where
+    (h : ZoneSays xs p (Ok l)) (k : ZoneSays ys p (Ok m)) (i : ZoneSays zs p (Ok o)) where
   one : number l ≡ place_in (corners_of xs) (spot_of p)
   one = zone_number xs p l h
 

@@ -19,20 +19,20 @@ use Rattle.point.specs.Spot.{spot_of}
 use Rattle.geometry.specs.Zone.{corners_of, ZoneSays}
 use Rattle.geometry.specs.declared.answer.Place.{Place}
 use Rattle.geometry.specs.declared.answer.Place.TheVariants.{Outside, Border, Inside}
-use Rattle.geometry.specs.declared.answer.Zone.TheVariants.{At}
 use Rattle.geometry.proofs.Laws.Zone.{place_once}
 use Rattle.geometry.proofs.Laws.Calls.{zone_lies, place_inside, place_outside, place_border}
 use Rattle.laws.proofs.Laws.Zones.{number, number_inside, number_border, OffBorder, off_number, zone_number}
+use Rattle.std.specs.Prelude.{Ok}
 
 -- the number of an answer, by another listing
-listed_number : (xs : List Float) (p : Point) (l : Place) (cs : List Spot) → Relisted (corners_of xs) cs → ZoneSays xs p (At l)
+listed_number : (xs : List Float) (p : Point) (l : Place) (cs : List Spot) → Relisted (corners_of xs) cs → ZoneSays xs p (Ok l)
     → number l ≡ place_in cs (spot_of p)
 listed_number xs p l cs r h = zone_number xs p l h ∙ relisted_place (spot_of p) (corners_of xs) cs r
 
 -- ---- two loops through a: one, two, and both in one list
 module _ (xs ys zs : List Float) (p : Point) (l m o : Place) (a : Spot) (cs ds : List Spot)
     (first : Relisted (corners_of xs) (a ∷ cs)) (second : Relisted (corners_of ys) (a ∷ ds)) (both : Relisted (corners_of zs) (a ∷ cs ++ a ∷ ds))
-    (h : ZoneSays xs p (At l)) (k : ZoneSays ys p (At m)) (i : ZoneSays zs p (At o)) where
+    (h : ZoneSays xs p (Ok l)) (k : ZoneSays ys p (Ok m)) (i : ZoneSays zs p (Ok o)) where
   one : number l ≡ place_in (a ∷ cs) (spot_of p)
   one = listed_number xs p l (a ∷ cs) first h
 
@@ -71,7 +71,7 @@ module _ (xs ys zs : List Float) (p : Point) (l m o : Place) (a : Spot) (cs ds :
 
 -- ---- corners listed twice over: the same answer, the edge's number too
 pub zone_twice : (xs ys : List Float) (p : Point) (l m : Place) → corners_of ys ≡ corners_of xs ++ corners_of xs
-    → ZoneSays xs p (At l) → ZoneSays ys p (At m) → l ≡ m
+    → ZoneSays xs p (Ok l) → ZoneSays ys p (Ok m) → l ≡ m
 zone_twice xs ys p l m e h k =
     place_once l m
     (sym (zone_lies xs p l h) ∙ sym (twice_place (corners_of xs) (spot_of p))
@@ -80,6 +80,6 @@ zone_twice xs ys p l m e h k =
 -- ---- a figure of eight: four corners, of which ab and cd cross each other. Its loop between b and c is what is to the left of ab, bc and cd: it is
 -- inside. So is the loop between d and a: it is that of b, a, d, c, which is another listing of the same round
 pub zone_eight : (xs : List Float) (p : Point) (l : Place) (a b c d : Spot) → Relisted (corners_of xs) (a ∷ b ∷ c ∷ d ∷ []) → Crossed a b c d
-    → LeftOf a b (spot_of p) → LeftOf b c (spot_of p) → LeftOf c d (spot_of p) → ZoneSays xs p (At l) → l ≡ Inside
+    → LeftOf a b (spot_of p) → LeftOf b c (spot_of p) → LeftOf c d (spot_of p) → ZoneSays xs p (Ok l) → l ≡ Inside
 zone_eight xs p l a b c d r x ab bc cd h =
     number_inside l (listed_number xs p l (a ∷ b ∷ c ∷ d ∷ []) r h ∙ eight_inside a b c d (spot_of p) x ab bc cd)

@@ -20,12 +20,12 @@ use Rattle.geometry.specs.Zone.{corners_of, place_said, ZoneSays}
 use Rattle.geometry.specs.Reasons.{total_in}
 use Rattle.geometry.specs.declared.answer.Place.{Place}
 use Rattle.geometry.specs.declared.answer.Place.TheVariants.{Border}
-use Rattle.geometry.specs.declared.answer.Zone.TheVariants.{At}
 use Rattle.geometry.proofs.Laws.Calls.{zone_lies, place_border}
 use Rattle.laws.specs.Parity.{odd_or_even}
 use Rattle.laws.proofs.Laws.Zones.{number, number_border, zone_number}
+use Rattle.std.specs.Prelude.{Ok}
 
-module _ (xs : List Float) (p : Point) (l : Place) (h : ZoneSays xs p (At l)) where
+module _ (xs : List Float) (p : Point) (l : Place) (h : ZoneSays xs p (Ok l)) where
   -- the same answer as before exactly on the border, and where the total is odd or 0
   pub zone_parity : (odd_or_even xs p ≡ place_said l) ↔ (((k : ℕ) × (l ≡ Border k)) ⊎ Agreed (total_in xs p))
   zone_parity =

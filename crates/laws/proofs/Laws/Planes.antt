@@ -21,9 +21,9 @@ use Rattle.sum.specs.declared.answer.Sign.TheVariants.{Minus, Zero, Plus}
 use Rattle.sum.proofs.Laws.Look.{sign_once}
 use Rattle.geometry.specs.Plane.{PlaneSays}
 use Rattle.geometry.specs.declared.answer.Signed.{Signed}
-use Rattle.geometry.specs.declared.answer.PlaneSide.{PlaneSide}
-use Rattle.geometry.specs.declared.answer.PlaneSide.TheVariants.{Of}
 use Rattle.geometry.proofs.Laws.PlaneCalls.{plane_sign, plane_accepted, plane_answers}
+use Rattle.refusal.specs.declared.Refusal.{Refusal}
+use Rattle.std.specs.Prelude.{Ok, Result}
 
 -- ---- a sign by its number
 twice_turned : (z : ℤ) → neg_ℤ (neg_ℤ z) ≡ z
@@ -41,7 +41,7 @@ pub plane_by_value : (p q r s a b c d : HighPoint) (t u : Signed)
     → HighOfDoubles p → HighOfDoubles q → HighOfDoubles r → HighOfDoubles s
     → HighOfDoubles a → HighOfDoubles b → HighOfDoubles c → HighOfDoubles d
     → high_spot_of p ≡ high_spot_of a → high_spot_of q ≡ high_spot_of b → high_spot_of r ≡ high_spot_of c → high_spot_of s ≡ high_spot_of d
-    → PlaneSays p q r s (Of t) → PlaneSays a b c d (Of u) → t.sign ≡ u.sign
+    → PlaneSays p q r s (Ok t) → PlaneSays a b c d (Ok u) → t.sign ≡ u.sign
 plane_by_value p q r s a b c d t u P Q R S A B C D e f g i h k =
     sign_once t.sign u.sign
     (plane_sign p q r s t P Q R S h
@@ -50,10 +50,10 @@ plane_by_value p q r s a b c d t u P Q R S A B C D e f g i h k =
     ∙ sym (plane_sign a b c d u A B C D k))
 
 module _ (p q r s : HighPoint) (t : Signed) (P : HighOfDoubles p) (Q : HighOfDoubles q) (R : HighOfDoubles r) (S : HighOfDoubles s)
-    (h : PlaneSays p q r s (Of t)) where
+    (h : PlaneSays p q r s (Ok t)) where
   -- ---- two of the four points exchanged, the ball with a point of the plane too: these are answered as well, and the sign turns
-  pub plane_exchanged : (a b c d : HighPoint) (z : PlaneSide) → Exchanged p q r s a b c d → PlaneSays a b c d z
-      → (u : Signed) × (z ≡ Of u) × (sign_number u.sign ≡ neg_ℤ (sign_number t.sign))
+  pub plane_exchanged : (a b c d : HighPoint) (z : Result Signed Refusal) → Exchanged p q r s a b c d → PlaneSays a b c d z
+      → (u : Signed) × (z ≡ Ok u) × (sign_number u.sign ≡ neg_ℤ (sign_number t.sign))
   plane_exchanged a b c d z e k =
       let (in_a, in_b, in_c, in_d) = exchanged_all HighAccepted e (plane_accepted p q r s t h) in
       let (A, B, C, D) = exchanged_all HighOfDoubles e (P, Q, R, S) in

@@ -16,11 +16,11 @@ use Rattle.point.specs.declared.Point.{Point}
 use Rattle.point.specs.Spot.{spot_of}
 use Rattle.geometry.specs.Zone.{corners_of, place_in, place_said, zone_said, ZoneSays}
 use Rattle.geometry.specs.declared.answer.Place.{Place}
-use Rattle.geometry.specs.declared.answer.Zone.{Zone}
-use Rattle.geometry.specs.declared.answer.Zone.TheVariants.{At, Refused}
 use Rattle.geometry.proofs.Laws.Answered.{AllAccepted, zone_answered, answered_zone}
 use Rattle.laws.specs.Corners.{flat_of}
 use Rattle.laws.proofs.Laws.Zones.{zone_relisted}
+use Rattle.refusal.specs.declared.Refusal.{Refusal}
+use Rattle.std.specs.Prelude.{Err, Ok, Result}
 
 -- ---- what a flat list of corners is worth
 corners_flat : (cs : List Point) → corners_of (flat_of cs) ≡ map spot_of cs
@@ -95,18 +95,18 @@ relisted_alike cs ds (inr t) =
     record { size = a.size ∙ length-reverse cs; accepts = λ h. a.accepts (reverse_accepts cs h) }
 
 -- ---- the law
-pub relisted_answers : (cs ds : List Point) (p : Point) (l : Place) (z : Zone) → Relisted cs ds
-    → ZoneSays (flat_of cs) p (At l) → ZoneSays (flat_of ds) p z
-    → (m : Place) × (z ≡ At m) × (place_number (place_said l) ≡ place_number (place_said m))
+pub relisted_answers : (cs ds : List Point) (p : Point) (l : Place) (z : Result Place Refusal) → Relisted cs ds
+    → ZoneSays (flat_of cs) p (Ok l) → ZoneSays (flat_of ds) p z
+    → (m : Place) × (z ≡ Ok m) × (place_number (place_said l) ≡ place_number (place_said m))
 unfolding zone_said
-relisted_answers cs ds p l (At m) r h k = (
+relisted_answers cs ds p l (Ok m) r h k = (
   m,
   refl,
   zone_relisted (flat_of cs) (flat_of ds) p l m
       (subst (λ (es : List Spot). Relisted es (corners_of (flat_of ds))) (sym (corners_flat cs))
       (subst (λ (es : List Spot). Relisted (map spot_of cs) es) (sym (corners_flat ds)) (relisted_spots cs ds r))) h k,
 )
-relisted_answers cs ds p l (Refused f) r h k =
+relisted_answers cs ds p l (Err f) r h k =
     let a = zone_answered (flat_of cs) p (place_said l) (sym h) in
     let e = relisted_alike cs ds r in
     let sizes : length (flat_of ds) ≡ length (flat_of cs) = omega (arith, flat_length cs, flat_length ds, e.size) in

@@ -24,9 +24,9 @@ use Rattle.point.specs.Spot.{spot_of}
 use Rattle.geometry.specs.Zone.{corners_of, place_said, ZoneSays}
 use Rattle.geometry.specs.declared.answer.Place.{Place}
 use Rattle.geometry.specs.declared.answer.Place.TheVariants.{Outside, Border, Inside}
-use Rattle.geometry.specs.declared.answer.Zone.TheVariants.{At}
 use Rattle.geometry.proofs.Laws.Zone.{place_once}
 use Rattle.geometry.proofs.Laws.Calls.{zone_lies, place_inside, place_outside, place_border}
+use Rattle.std.specs.Prelude.{Ok}
 
 -- ---- a place by its number
 abbrev pub number : Place → ℕ
@@ -55,31 +55,31 @@ pub off_number : (l : Place) → OffBorder l → number l ≡ 1 → ⊥
 off_number l off e = let (k, b) = number_border l e in off k b
 
 -- ---- the answer by the rule: 0, 1, 2 for outside, border, inside
-pub zone_number : (xs : List Float) (p : Point) (l : Place) → ZoneSays xs p (At l) → number l ≡ place_in (corners_of xs) (spot_of p)
+pub zone_number : (xs : List Float) (p : Point) (l : Place) → ZoneSays xs p (Ok l) → number l ≡ place_in (corners_of xs) (spot_of p)
 zone_number xs p l h = ap place_number (sym (zone_lies xs p l h))
 
 -- ---- corners and points of the same worth have the same answer, the edge's number too
 pub zone_by_value : (xs ys : List Float) (p q : Point) (l m : Place) → corners_of xs ≡ corners_of ys → spot_of p ≡ spot_of q
-    → ZoneSays xs p (At l) → ZoneSays ys q (At m) → l ≡ m
+    → ZoneSays xs p (Ok l) → ZoneSays ys q (Ok m) → l ≡ m
 zone_by_value xs ys p q l m e f h k =
     place_once l m (sym (zone_lies xs p l h) ∙ ap₂ (λ (cs : List Spot) (z : Spot). place_of (edges_of cs) z) e f ∙ zone_lies ys q m k)
 
 -- ---- begun at another corner, listed backwards, or both: the same of the three
 pub zone_relisted : (xs ys : List Float) (p : Point) (l m : Place) → Relisted (corners_of xs) (corners_of ys)
-    → ZoneSays xs p (At l) → ZoneSays ys p (At m) → place_number (place_said l) ≡ place_number (place_said m)
+    → ZoneSays xs p (Ok l) → ZoneSays ys p (Ok m) → place_number (place_said l) ≡ place_number (place_said m)
 zone_relisted xs ys p l m r h k =
     zone_number xs p l h ∙ relisted_place (spot_of p) (corners_of xs) (corners_of ys) r ∙ sym (zone_number ys p m k)
 
 -- ---- a point on an edge is on the border
 pub zone_edge : (xs : List Float) (p : Point) (l : Place) (e : Edge) → Memᴰ e (edges_of (corners_of xs)) → on_edge e (spot_of p) ≡ true
-    → ZoneSays xs p (At l) → place_number (place_said l) ≡ 1
+    → ZoneSays xs p (Ok l) → place_number (place_said l) ≡ 1
 zone_edge xs p l e i on h =
     zone_number xs p l h ∙ (border_met (edges_of (corners_of xs)) (spot_of p)).1 (record { at = e; listed = i; on = on })
 
 -- on an edge that two zones share, whichever way each runs and whichever corner is first, it is on the border of both
 pub zone_shared_edge : (xs ys : List Float) (p : Point) (l m : Place) (e : Edge) → Memᴰ e (edges_of (corners_of xs))
     → Memᴰ e (edges_of (corners_of ys)) ⊎ Memᴰ (turned_round e) (edges_of (corners_of ys)) → on_edge e (spot_of p) ≡ true
-    → ZoneSays xs p (At l) → ZoneSays ys p (At m) → (place_number (place_said l) ≡ 1) × (place_number (place_said m) ≡ 1)
+    → ZoneSays xs p (Ok l) → ZoneSays ys p (Ok m) → (place_number (place_said l) ≡ 1) × (place_number (place_said m) ≡ 1)
 zone_shared_edge xs ys p l m e i (inl j) on h k = (zone_edge xs p l e i on h, zone_edge ys p m e j on k)
 zone_shared_edge xs ys p l m e i (inr j) on h k =
     (zone_edge xs p l e i on h, zone_edge ys p m (turned_round e) j (on_round e (spot_of p) ∙ on) k)
@@ -87,7 +87,7 @@ zone_shared_edge xs ys p l m e i (inr j) on h k =
 -- ---- no point is inside both of two triangles on the two sides of an edge, listed in any way
 pub zone_triangles : (a b c d : Spot) (xs ys : List Float) (p : Point) → Relisted (corners_of xs) (a ∷ b ∷ c ∷ [])
     → Relisted (corners_of ys) (a ∷ b ∷ d ∷ []) → pos 0 <ᶻ determinant a b c → determinant a b d <ᶻ pos 0
-    → ZoneSays xs p (At Inside) → ZoneSays ys p (At Inside) → ⊥
+    → ZoneSays xs p (Ok Inside) → ZoneSays ys p (Ok Inside) → ⊥
 zone_triangles a b c d xs ys p r s left right h k =
     listed_apart a b c d (spot_of p) (corners_of xs) (corners_of ys) r s left right
     (sym (zone_number xs p Inside h) ∙ place_inside) (sym (zone_number ys p Inside k) ∙ place_inside)

@@ -7,12 +7,11 @@ use Prim.Native.Nat.{ℕ, ◌+◌, ◌*◌, ◌<◌}
 use native.Mathlib.Nat.{mod-eq_of_lt}
 use lib.Dec.{eqb, ltb}
 use borrow.Author.Tests.{ltb-true}
+use Rattle.std.specs.Prelude.{Option, Some, None, IfSome}
 use Rattle.line.specs.Numeral.{with_digit, digit_of}
 use Rattle.line.specs.Line.{Meaning, unclear, of_file, first_of, later_of, bytes_of, file_in}
 use Rattle.line.specs.Next.{ended_of, only, file_with, reading_of}
 use Rattle.line.specs.Read.{joined, read_from}
-use Rattle.line.specs.declared.digit.Digit.{Digit}
-use Rattle.line.specs.declared.digit.Digit.TheVariants.{Value, None}
 use Rattle.line.specs.declared.answer.Line.TheVariants.{Unclear, Reading}
 use Rattle.line.specs.declared.answer.Reading.{Reading as File}
 use Rattle.line.specs.declared.answer.Found.TheVariants.{Byte}
@@ -28,8 +27,8 @@ bytes_half : (a : ℕ) (digits : List ℕ) (k : List ℕ → Meaning)
 unfolding bytes_of half_of
 bytes_half a [] k = go (digit_of a)
   where
-    go : (z : Digit) → with_digit 16 z (λ x. unclear) unclear ≡ unclear
-    go (Value d) = pick (ltb d 16)
+    go : (z : Option ℕ) → with_digit 16 z (λ x. unclear) unclear ≡ unclear
+    go (Some d) = pick (ltb d 16)
       where
         pick : (t : Bool) → cond t unclear unclear ≡ unclear
         pick true = refl
@@ -39,18 +38,18 @@ bytes_half a (b ∷ digits) k = refl
 
 module _ (v : ℕ) where
   Joins : (k l : List ℕ → Meaning) → Type 0
-  Joins k l = (bs : List ℕ) → joined (Byte v) (k bs) ≡ l bs
+  Joins k l = (bs : List ℕ) → joined (Some (Byte v)) (k bs) ≡ l bs
 
-  joined_digit : (z : Digit) (f g : ℕ → Meaning) → ((d : ℕ) → joined (Byte v) (f d) ≡ g d)
-      → joined (Byte v) (with_digit 16 z f unclear) ≡ with_digit 16 z g unclear
-  joined_digit (Value d) f g h = go (ltb d 16)
+  joined_digit : (z : Option ℕ) (f g : ℕ → Meaning) → ((d : ℕ) → joined (Some (Byte v)) (f d) ≡ g d)
+      → joined (Some (Byte v)) (with_digit 16 z f unclear) ≡ with_digit 16 z g unclear
+  joined_digit (Some d) f g h = go (ltb d 16)
     where
-      go : (t : Bool) → joined (Byte v) (cond t (f d) unclear) ≡ cond t (g d) unclear
+      go : (t : Bool) → joined (Some (Byte v)) (cond t (f d) unclear) ≡ cond t (g d) unclear
       go true = h d
       go false = refl
   joined_digit None f g h = refl
 
-  joined_bytes : (digits : List ℕ) (k l : List ℕ → Meaning) → Joins k l → joined (Byte v) (bytes_of digits k) ≡ bytes_of digits l
+  joined_bytes : (digits : List ℕ) (k l : List ℕ → Meaning) → Joins k l → joined (Some (Byte v)) (bytes_of digits k) ≡ bytes_of digits l
   unfolding bytes_of Joins
   joined_bytes [] k l h = h []
   joined_bytes (a ∷ []) k l h = refl
@@ -65,7 +64,7 @@ alone : List (List ℕ) → Meaning → Meaning
 alone [] m = m
 alone (word ∷ words) m = unclear
 
-joined_alone : (v : ℕ) (later : List (List ℕ)) (m : Meaning) → joined (Byte v) (alone later m) ≡ alone later (joined (Byte v) m)
+joined_alone : (v : ℕ) (later : List (List ℕ)) (m : Meaning) → joined (Some (Byte v)) (alone later m) ≡ alone later (joined (Some (Byte v)) m)
 unfolding alone
 joined_alone v [] m = refl
 joined_alone v (word ∷ words) m = refl
@@ -76,64 +75,69 @@ alone_unclear [] = refl
 alone_unclear (word ∷ words) = refl
 
 module _ (room : ℕ) where
-  file : Bool → Bool → ℕ → File
-  file some half x = record { room = room; some = some; half = half; digit = x }
+  file : Bool → Option ℕ → File
+  file some half = record { room = room; some = some; half = half }
 
-  bytes_from : Bool → ℕ → List ℕ → Meaning
-  bytes_from true x digits = half_of x digits (of_file room)
-  bytes_from false x digits = bytes_of digits (of_file room)
+  bytes_from : Option ℕ → List ℕ → Meaning
+  bytes_from (Some x) digits = half_of x digits (of_file room)
+  bytes_from None digits = bytes_of digits (of_file room)
 
-  Reads : Bool → ℕ → List ℕ → Type 0
-  Reads half x bytes = read_from (Reading (file true half x)) bytes ≡ alone (later_of bytes) (bytes_from half x (first_of bytes))
+  -- what is held of a byte is a digit
+  abbrev Holds : Option ℕ → Type 0
+  Holds half = IfSome half (λ x. x < 16)
 
-  module _ (b : ℕ) (bytes : List ℕ) (ih : (half : Bool) (x : ℕ) → x < 16 → Reads half x bytes) where
+  Reads : Option ℕ → List ℕ → Type 0
+  Reads half bytes = read_from (Reading (file true half)) bytes ≡ alone (later_of bytes) (bytes_from half (first_of bytes))
+
+  module _ (b : ℕ) (bytes : List ℕ) (ih : (half : Option ℕ) → Holds half → Reads half bytes) where
     -- the first digit of a byte
-    first_digit : (some : Bool) (x : ℕ)
-        → after (reading_of (file some false x) b) bytes ≡ alone (later_of bytes) (bytes_of (b ∷ first_of bytes) (of_file room))
+    first_digit : (some : Bool)
+        → after (reading_of (file some None) b) bytes ≡ alone (later_of bytes) (bytes_of (b ∷ first_of bytes) (of_file room))
     unfolding file Reads bytes_from
-    first_digit some x = go (digit_of b) ∙ ap (alone (later_of bytes)) (bytes_half b (first_of bytes) (of_file room))
+    first_digit some = go (digit_of b) ∙ ap (alone (later_of bytes)) (bytes_half b (first_of bytes) (of_file room))
       where
-        go : (z : Digit) → after (with_digit 16 z (file_with (file some false x)) (only Unclear)) bytes
+        go : (z : Option ℕ) → after (with_digit 16 z (file_with (file some None)) (only Unclear)) bytes
             ≡ alone (later_of bytes) (with_digit 16 z (λ d. half_of d (first_of bytes) (of_file room)) unclear)
-        go (Value d) = pick (ltb d 16) refl
+        go (Some d) = pick (ltb d 16) refl
           where
-            pick : (t : Bool) → ltb d 16 ≡ t → after (cond t (file_with (file some false x) d) (only Unclear)) bytes
+            pick : (t : Bool) → ltb d 16 ≡ t → after (cond t (file_with (file some None) d) (only Unclear)) bytes
                 ≡ alone (later_of bytes) (cond t (half_of d (first_of bytes) (of_file room)) unclear)
-            pick true f = ih true d (ltb-true d 16 f)
+            pick true f = ih (Some d) (ltb-true d 16 f)
             pick false f = read_unclear bytes ∙ sym (alone_unclear (later_of bytes))
         go None = read_unclear bytes ∙ sym (alone_unclear (later_of bytes))
 
     -- the second
     second_digit : (x : ℕ) → x < 16
-        → after (reading_of (file true true x) b) bytes ≡ alone (later_of bytes) (half_of x (b ∷ first_of bytes) (of_file room))
+        → after (reading_of (file true (Some x)) b) bytes ≡ alone (later_of bytes) (half_of x (b ∷ first_of bytes) (of_file room))
     unfolding file Reads bytes_from half_of Joins
     second_digit x h = go (digit_of b)
       where
-        go : (z : Digit) → after (with_digit 16 z (file_with (file true true x)) (only Unclear)) bytes
+        go : (z : Option ℕ) → after (with_digit 16 z (file_with (file true (Some x))) (only Unclear)) bytes
             ≡ alone (later_of bytes) (with_digit 16 z (λ y. bytes_of (first_of bytes) (λ bs. of_file room ((16 * x + y) ∷ bs))) unclear)
-        go (Value d) = pick (ltb d 16) refl
+        go (Some d) = pick (ltb d 16)
           where
-            pick : (t : Bool) → ltb d 16 ≡ t → after (cond t (file_with (file true true x) d) (only Unclear)) bytes
+            pick : (t : Bool) → after (cond t (file_with (file true (Some x)) d) (only Unclear)) bytes
                 ≡ alone (later_of bytes) (cond t (bytes_of (first_of bytes) (λ bs. of_file room ((16 * x + d) ∷ bs))) unclear)
-            pick true f = rw (mod-eq_of_lt h)
-                (ap (joined (Byte (16 * x + d))) (ih false d (ltb-true d 16 f))
+            pick true = rw (mod-eq_of_lt h)
+                (ap (joined (Some (Byte (16 * x + d)))) (ih None tt)
                 ∙ joined_alone (16 * x + d) (later_of bytes) (bytes_of (first_of bytes) (of_file room))
                 ∙ ap (alone (later_of bytes))
                 (joined_bytes (16 * x + d) (first_of bytes) (of_file room) (λ bs. of_file room ((16 * x + d) ∷ bs)) (λ bs. refl)))
-            pick false f = read_unclear bytes ∙ sym (alone_unclear (later_of bytes))
+            pick false = read_unclear bytes ∙ sym (alone_unclear (later_of bytes))
         go None = read_unclear bytes ∙ sym (alone_unclear (later_of bytes))
 
-  read_some : (bytes : List ℕ) (half : Bool) (x : ℕ) → x < 16 → Reads half x bytes
+  read_some : (bytes : List ℕ) (half : Option ℕ) → Holds half → Reads half bytes
   unfolding Reads bytes_from file alone half_of bytes_of read_from ended_of first_of later_of
-  read_some [] true x h = refl
-  read_some [] false x h = refl
-  read_some (b ∷ bytes) half x h = go (eqb b 32) refl half (λ s y k. read_some bytes s y k)
+  read_some [] (Some x) h = refl
+  read_some [] None h = refl
+  read_some (b ∷ bytes) half h = go (eqb b 32) refl half h (read_some bytes)
     where
-      go : (t : Bool) → eqb b 32 ≡ t → (half : Bool) → ((s : Bool) (y : ℕ) → y < 16 → Reads s y bytes) → Reads half x (b ∷ bytes)
-      go true e half ih = space_read b bytes e (Reading (file true half x)) ∙ read_unclear bytes ∙ rw (space_later b bytes e) refl
-      go false e true ih = other_read b bytes e (Reading (file true true x)) ∙ second_digit b bytes ih x h
+      go : (t : Bool) → eqb b 32 ≡ t → (half : Option ℕ) → Holds half → ((half : Option ℕ) → Holds half → Reads half bytes)
+          → Reads half (b ∷ bytes)
+      go true e half h ih = space_read b bytes e (Reading (file true half)) ∙ read_unclear bytes ∙ rw (space_later b bytes e) refl
+      go false e (Some x) h ih = other_read b bytes e (Reading (file true (Some x))) ∙ second_digit b bytes ih x h
           ∙ rw (other_first b bytes e, other_later b bytes e) refl
-      go false e false ih = other_read b bytes e (Reading (file true false x)) ∙ first_digit b bytes ih true x
+      go false e None h ih = other_read b bytes e (Reading (file true None)) ∙ first_digit b bytes ih true
           ∙ rw (other_first b bytes e, other_later b bytes e) refl
 
   file_in_lem : (b : ℕ) (digits : List ℕ) (later : List (List ℕ))
@@ -142,14 +146,14 @@ module _ (room : ℕ) where
   file_in_lem b digits [] = refl
   file_in_lem b digits (word ∷ words) = refl
 
-  pub read_file : (bytes : List ℕ) → read_from (Reading (record { room = room; some = false; half = false; digit = 0 })) bytes
+  pub read_file : (bytes : List ℕ) → read_from (Reading (record { room = room; some = false; half = None })) bytes
       ≡ file_in (first_of bytes ∷ later_of bytes) room
   unfolding file read_from ended_of first_of later_of bytes_of
   read_file [] = refl
   read_file (b ∷ bytes) = go (eqb b 32) refl
     where
       go : (t : Bool) → eqb b 32 ≡ t
-          → read_from (Reading (file false false 0)) (b ∷ bytes) ≡ file_in (first_of (b ∷ bytes) ∷ later_of (b ∷ bytes)) room
-      go true e = space_read b bytes e (Reading (file false false 0)) ∙ read_unclear bytes ∙ rw (space_first b bytes e) refl
-      go false e = other_read b bytes e (Reading (file false false 0)) ∙ first_digit b bytes (read_some bytes) false 0
+          → read_from (Reading (file false None)) (b ∷ bytes) ≡ file_in (first_of (b ∷ bytes) ∷ later_of (b ∷ bytes)) room
+      go true e = space_read b bytes e (Reading (file false None)) ∙ read_unclear bytes ∙ rw (space_first b bytes e) refl
+      go false e = other_read b bytes e (Reading (file false None)) ∙ first_digit b bytes (read_some bytes) false
           ∙ file_in_lem b (first_of bytes) (later_of bytes) ∙ rw (other_first b bytes e, other_later b bytes e) refl

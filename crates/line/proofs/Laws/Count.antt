@@ -7,12 +7,11 @@ use Prim.Native.Nat.{ℕ, ◌+◌, ◌*◌, ◌^◌, ◌≤◌, ◌<◌}
 use native.Mathlib.Omega.{arith}
 use lib.Dec.{eqb, ltb}
 use borrow.Author.Tests.{eq-eqb, ne_eqb, lt-ltb, le-ltb, ltb-true, ltb-false, eqb-true, eqb-false}
-use Rattle.line.specs.Numeral.{Numeral, number, none, with_digit, digit_of, onward, small, count_of}
+use Rattle.std.specs.Prelude.{Option, Some, None}
+use Rattle.line.specs.Numeral.{with_digit, digit_of, onward, small, count_of}
 use Rattle.line.specs.Line.{Meaning, unclear, first_of, later_of, with_number}
 use Rattle.line.specs.Next.{ended_of, closed_of, to_count, count_with, after_one}
 use Rattle.line.specs.Read.{end_meaning, read_from}
-use Rattle.line.specs.declared.digit.Digit.{Digit}
-use Rattle.line.specs.declared.digit.Digit.TheVariants.{Value, None}
 use Rattle.line.specs.declared.answer.Word.{Word}
 use Rattle.line.specs.declared.answer.Line.TheVariants.{Unclear, Counting}
 use Rattle.line.specs.declared.answer.Counting.{Counting as Count}
@@ -20,36 +19,36 @@ use Rattle.line.proofs.Laws.Digit.{digit_nonzero}
 use Rattle.line.proofs.Laws.Read.{after, space_read, space_first, space_later, other_read, other_first, other_later, read_unclear}
 
 -- no digit makes a count smaller
-large_stays : (word : List ℕ) (v : ℕ) → 2 ^ 32 ≤ v → small (onward 10 v word) ≡ none
+large_stays : (word : List ℕ) (v : ℕ) → 2 ^ 32 ≤ v → small (onward 10 v word) ≡ None
 unfolding onward
 large_stays [] v h = rw (le-ltb v (2 ^ 32) h) refl
 large_stays (b ∷ word) v h = go (digit_of b) (λ d. large_stays word (10 * v + d) (omega arith))
   where
-    go : (z : Digit) → ((d : ℕ) → small (onward 10 (10 * v + d) word) ≡ none)
-        → small (with_digit 10 z (λ d. onward 10 (10 * v + d) word) none) ≡ none
-    go (Value d) ih = pick (ltb d 10)
+    go : (z : Option ℕ) → ((d : ℕ) → small (onward 10 (10 * v + d) word) ≡ None)
+        → small (with_digit 10 z (λ d. onward 10 (10 * v + d) word) None) ≡ None
+    go (Some d) ih = pick (ltb d 10)
       where
-        pick : (t : Bool) → small (cond t (onward 10 (10 * v + d) word) none) ≡ none
+        pick : (t : Bool) → small (cond t (onward 10 (10 * v + d) word) None) ≡ None
         pick true = ih d
         pick false = refl
     go None ih = refl
 
 -- the digits after a first one: none after a 0
-count_from : ℕ → List ℕ → Numeral
-count_from n [] = number n
-count_from n (b ∷ word) = cond (eqb n 0) none (small (onward 10 n (b ∷ word)))
+count_from : ℕ → List ℕ → Option ℕ
+count_from n [] = Some n
+count_from n (b ∷ word) = cond (eqb n 0) None (small (onward 10 n (b ∷ word)))
 
 nonzero_from : (word : List ℕ) (n : ℕ) → 0 < n → n < 2 ^ 32 → count_from n word ≡ small (onward 10 n word)
 unfolding count_from onward
 nonzero_from [] n some h = rw (lt-ltb n (2 ^ 32) h) refl
 nonzero_from (b ∷ word) n some h = rw (ne_eqb n 0 (λ e. omega arith)) refl
 
-zero_digit : (b d : ℕ) → b ≡ 48 → digit_of b ≡ Value d → d ≡ 0
+zero_digit : (b d : ℕ) → b ≡ 48 → digit_of b ≡ Some d → d ≡ 0
 unfolding digit_of
-zero_digit b d f e = let z : Value 0 ≡ Value d = ap digit_of (sym f) ∙ e in cc
+zero_digit b d f e = let z : Some 0 ≡ Some d = ap digit_of (sym f) ∙ e in cc
 
 -- the first digit
-count_digit : (b d : ℕ) (word : List ℕ) → digit_of b ≡ Value d → d < 10 → count_from (10 * 0 + d) word ≡ count_of (b ∷ word)
+count_digit : (b d : ℕ) (word : List ℕ) → digit_of b ≡ Some d → d < 10 → count_from (10 * 0 + d) word ≡ count_of (b ∷ word)
 unfolding count_from count_of onward
 count_digit b d [] e h = rw (e, lt-ltb d 10 h, lt-ltb (10 * 0 + d) (2 ^ 32) (omega arith)) refl
 count_digit b d (c ∷ word) e h = go (eqb b 48) refl
@@ -60,20 +59,20 @@ count_digit b d (c ∷ word) e h = go (eqb b 48) refl
         let some = digit_nonzero b d e (eqb-false b 48 f) in
         rw (f, e, lt-ltb d 10 h, ne_eqb (10 * 0 + d) 0 (λ z. omega arith)) refl
 
-onward_none : (b : ℕ) (word : List ℕ) → digit_of b ≡ None → onward 10 0 (b ∷ word) ≡ none
+onward_none : (b : ℕ) (word : List ℕ) → digit_of b ≡ None → onward 10 0 (b ∷ word) ≡ None
 unfolding onward
 onward_none b word e = rw e refl
 
-onward_large : (b d : ℕ) (word : List ℕ) → digit_of b ≡ Value d → ltb d 10 ≡ false → onward 10 0 (b ∷ word) ≡ none
+onward_large : (b d : ℕ) (word : List ℕ) → digit_of b ≡ Some d → ltb d 10 ≡ false → onward 10 0 (b ∷ word) ≡ None
 unfolding onward
 onward_large b d word e f = rw (e, f) refl
 
-count_none : (b : ℕ) (word : List ℕ) → onward 10 0 (b ∷ word) ≡ none → count_of (b ∷ word) ≡ none
+count_none : (b : ℕ) (word : List ℕ) → onward 10 0 (b ∷ word) ≡ None → count_of (b ∷ word) ≡ None
 unfolding count_of
 count_none b [] e = rw e refl
 count_none b (c ∷ word) e = go (eqb b 48)
   where
-    go : (t : Bool) → cond t none (small (onward 10 0 (b ∷ c ∷ word))) ≡ none
+    go : (t : Bool) → cond t None (small (onward 10 0 (b ∷ c ∷ word))) ≡ None
     go true = refl
     go false = rw e refl
 
@@ -81,11 +80,11 @@ count_none b (c ∷ word) e = go (eqb b 48)
 module _ (word : Word) (many left : ℕ) (k : ℕ → List (List ℕ) → Meaning)
     (ends : (n : ℕ) → end_meaning (closed_of (after_one word many left n)) ≡ k n [])
     (goes : (n : ℕ) (bytes : List ℕ) → after (after_one word many left n) bytes ≡ k n (first_of bytes ∷ later_of bytes)) where
-  follows : List (List ℕ) → Numeral → Meaning
+  follows : List (List ℕ) → Option ℕ → Meaning
   follows later z = with_number z (λ n. k n later)
 
   abbrev so_far : ℕ → Count
-  so_far n = record { word = word; some = true; count = n; many = many; left = left }
+  so_far n = record { word = word; count = Some n; many = many; left = left }
 
   Reads : ℕ → List ℕ → Type 0
   Reads n bytes = read_from (Counting (so_far n)) bytes ≡ follows (later_of bytes) (count_from n (first_of bytes))
@@ -96,16 +95,16 @@ module _ (word : Word) (many left : ℕ) (k : ℕ → List (List ℕ) → Meanin
   counting_other n b bytes e ih =
       other_read b bytes e (Counting (so_far n)) ∙ go (digit_of b) ∙ rw (other_first b bytes e, other_later b bytes e) refl
     where
-      more : Numeral → Meaning
+      more : Option ℕ → Meaning
       more = follows (later_of bytes)
 
-      neither : (t : Bool) → unclear ≡ more (cond t none none)
+      neither : (t : Bool) → unclear ≡ more (cond t None None)
       neither true = refl
       neither false = refl
 
       pick : (d : ℕ) (t u : Bool) → eqb n 0 ≡ u → (v : Bool) → ltb (10 * n + d) (2 ^ 32) ≡ v
           → read_from (cond t (count_with (so_far n) d) Unclear) bytes
-          ≡ more (cond (eqb n 0) none (small (cond t (onward 10 (10 * n + d) (first_of bytes)) none)))
+          ≡ more (cond (eqb n 0) None (small (cond t (onward 10 (10 * n + d) (first_of bytes)) None)))
       pick d true true f v g = rw f (read_unclear bytes)
       pick d true false f true g =
           let less : 10 * n + d < 2 ^ 32 = ltb-true (10 * n + d) (2 ^ 32) g in
@@ -115,9 +114,9 @@ module _ (word : Word) (many left : ℕ) (k : ℕ → List (List ℕ) → Meanin
           rw (f, g) (read_unclear bytes ∙ sym (ap more (large_stays (first_of bytes) (10 * n + d) (ltb-false (10 * n + d) (2 ^ 32) g))))
       pick d false u f v g = read_unclear bytes ∙ neither (eqb n 0)
 
-      go : (z : Digit) → read_from (with_digit 10 z (count_with (so_far n)) Unclear) bytes
-          ≡ more (cond (eqb n 0) none (small (with_digit 10 z (λ d. onward 10 (10 * n + d) (first_of bytes)) none)))
-      go (Value d) = pick d (ltb d 10) (eqb n 0) refl (ltb (10 * n + d) (2 ^ 32)) refl
+      go : (z : Option ℕ) → read_from (with_digit 10 z (count_with (so_far n)) Unclear) bytes
+          ≡ more (cond (eqb n 0) None (small (with_digit 10 z (λ d. onward 10 (10 * n + d) (first_of bytes)) None)))
+      go (Some d) = pick d (ltb d 10) (eqb n 0) refl (ltb (10 * n + d) (2 ^ 32)) refl
       go None = read_unclear bytes ∙ neither (eqb n 0)
 
   read_counted : (bytes : List ℕ) (n : ℕ) → Reads n bytes
@@ -136,13 +135,13 @@ module _ (word : Word) (many left : ℕ) (k : ℕ → List (List ℕ) → Meanin
   read_count [] = refl
   read_count (b ∷ bytes) = go (eqb b 32) refl
     where
-      more : Numeral → Meaning
+      more : Option ℕ → Meaning
       more = follows (later_of bytes)
 
       begun : Count
-      begun = record { word = word; some = false; count = 0; many = many; left = left }
+      begun = record { word = word; count = None; many = many; left = left }
 
-      pick : (d : ℕ) → digit_of b ≡ Value d → (t : Bool) → ltb d 10 ≡ t
+      pick : (d : ℕ) → digit_of b ≡ Some d → (t : Bool) → ltb d 10 ≡ t
           → read_from (cond t (count_with begun d) Unclear) bytes ≡ more (count_of (b ∷ first_of bytes))
       pick d e true f =
           let less : d < 10 = ltb-true d 10 f in
@@ -150,9 +149,9 @@ module _ (word : Word) (many left : ℕ) (k : ℕ → List (List ℕ) → Meanin
           (read_counted bytes (10 * 0 + d) ∙ ap more (count_digit b d (first_of bytes) e less))
       pick d e false f = read_unclear bytes ∙ sym (ap more (count_none b (first_of bytes) (onward_large b d (first_of bytes) e f)))
 
-      other : (z : Digit) → digit_of b ≡ z
+      other : (z : Option ℕ) → digit_of b ≡ z
           → read_from (with_digit 10 z (count_with begun) Unclear) bytes ≡ more (count_of (b ∷ first_of bytes))
-      other (Value d) e = pick d e (ltb d 10) refl
+      other (Some d) e = pick d e (ltb d 10) refl
       other None e = read_unclear bytes ∙ sym (ap more (count_none b (first_of bytes) (onward_none b (first_of bytes) e)))
 
       go : (t : Bool) → eqb b 32 ≡ t

@@ -10,12 +10,11 @@ use native.Mathlib.Omega.{arith}
 use lib.Dec.{eqb, ltb, leb}
 use lib.ListN.{length}
 use borrow.Author.Tests.{ne_eqb, lt-ltb, ltb-true, leb-true, leb-false}
-use Rattle.line.specs.Numeral.{Numeral, number, none, with_digit, digit_of, onward, pattern_of}
+use Rattle.std.specs.Prelude.{Option, Some, None}
+use Rattle.line.specs.Numeral.{with_digit, digit_of, onward, pattern_of}
 use Rattle.line.specs.Line.{Meaning, unclear, of_doubles, first_of, later_of, with_number, doubles_of}
 use Rattle.line.specs.Next.{ended_of, asked, taken_of, double_with}
 use Rattle.line.specs.Read.{joined, read_from}
-use Rattle.line.specs.declared.digit.Digit.{Digit}
-use Rattle.line.specs.declared.digit.Digit.TheVariants.{Value, None}
 use Rattle.line.specs.declared.answer.Word.{Word}
 use Rattle.line.specs.declared.answer.Line.{Line}
 use Rattle.line.specs.declared.answer.Line.TheVariants.{Unclear, Asking}
@@ -24,13 +23,13 @@ use Rattle.line.specs.declared.answer.Found.TheVariants.{Number as IsNumber}
 use Rattle.line.proofs.Laws.Read.{after, space_read, space_first, space_later, other_read, other_first, other_later, read_unclear}
 
 -- what is found stands before what goes on with a number
-pub joined_number : (v : ℕ) (z : Numeral) (f g : ℕ → Meaning) → ((x : ℕ) → joined (IsNumber v) (f x) ≡ g x)
-    → joined (IsNumber v) (with_number z f) ≡ with_number z g
-joined_number v (number x) f g h = h x
-joined_number v none f g h = refl
+pub joined_number : (v : ℕ) (z : Option ℕ) (f g : ℕ → Meaning) → ((x : ℕ) → joined (Some (IsNumber v)) (f x) ≡ g x)
+    → joined (Some (IsNumber v)) (with_number z f) ≡ with_number z g
+joined_number v (Some x) f g h = h x
+joined_number v None f g h = refl
 
-pub joined_doubles : (v : ℕ) (words : List (List ℕ)) (k l : List ℕ → Meaning) → ((vs : List ℕ) → joined (IsNumber v) (k vs) ≡ l vs)
-    → joined (IsNumber v) (doubles_of words k) ≡ doubles_of words l
+pub joined_doubles : (v : ℕ) (words : List (List ℕ)) (k l : List ℕ → Meaning) → ((vs : List ℕ) → joined (Some (IsNumber v)) (k vs) ≡ l vs)
+    → joined (Some (IsNumber v)) (doubles_of words k) ≡ doubles_of words l
 unfolding doubles_of
 joined_doubles v [] k l h = h []
 joined_doubles v (word ∷ words) k l h =
@@ -38,8 +37,8 @@ joined_doubles v (word ∷ words) k l h =
     (λ x. joined_doubles v words (λ vs. k (x ∷ vs)) (λ vs. l (x ∷ vs)) (λ vs. h (x ∷ vs)))
 
 -- a word that goes on after so many digits of a double
-double_from : ℕ → ℕ → List ℕ → Numeral
-double_from digits value word = cond (eqb (digits + length word) 16) (onward 16 value word) none
+double_from : ℕ → ℕ → List ℕ → Option ℕ
+double_from digits value word = cond (eqb (digits + length word) 16) (onward 16 value word) None
 
 module _ (word : Word) (count : ℕ) where
   -- the doubles that are left, the first of them begun
@@ -62,7 +61,7 @@ module _ (word : Word) (count : ℕ) where
     q : Double
     q = record { word = word; count = count; digits = digits; value = value }
 
-    more : Numeral → Meaning
+    more : Option ℕ → Meaning
     more z = with_number z (λ v. doubles_of (later_of bytes) (λ vs. of_doubles word count (v ∷ vs)))
 
     asking_space : eqb b 32 ≡ true → Reads 0 0 bytes → Reads digits value (b ∷ bytes)
@@ -70,10 +69,10 @@ module _ (word : Word) (count : ℕ) where
     asking_space e ih =
         space_read b bytes e (asking digits value) ∙ go (eqb digits 16) refl ∙ rw (space_first b bytes e, space_later b bytes e) refl
       where
-        whole : joined (IsNumber value) (read_from (asking 0 0) bytes)
+        whole : joined (Some (IsNumber value)) (read_from (asking 0 0) bytes)
             ≡ doubles_of (first_of bytes ∷ later_of bytes) (λ vs. of_doubles word count (value ∷ vs))
         whole =
-            ap (joined (IsNumber value)) (ih ∙ none_begun (first_of bytes) (later_of bytes))
+            ap (joined (Some (IsNumber value))) (ih ∙ none_begun (first_of bytes) (later_of bytes))
             ∙ joined_doubles value (first_of bytes ∷ later_of bytes) (of_doubles word count) (λ vs. of_doubles word count (value ∷ vs))
             (λ vs. refl)
 
@@ -88,15 +87,15 @@ module _ (word : Word) (count : ℕ) where
     asking_other e h ih =
         other_read b bytes e (asking digits value) ∙ go (digit_of b) ∙ rw (other_first b bytes e, other_later b bytes e) refl
       where
-        neither : (t : Bool) → unclear ≡ more (cond t none none)
+        neither : (t : Bool) → unclear ≡ more (cond t None None)
         neither true = refl
         neither false = refl
 
-        next : ℕ → ℕ → Numeral
-        next n d = cond (eqb n 16) (onward 16 (16 * value + d) (first_of bytes)) none
+        next : ℕ → ℕ → Option ℕ
+        next n d = cond (eqb n 16) (onward 16 (16 * value + d) (first_of bytes)) None
 
         pick : (d : ℕ) (t : Bool) → ltb d 16 ≡ t → (u : Bool) → leb 16 digits ≡ u → read_from (cond t (double_with q d) Unclear) bytes
-            ≡ more (cond (eqb (digits + length (b ∷ first_of bytes)) 16) (cond t (onward 16 (16 * value + d) (first_of bytes)) none) none)
+            ≡ more (cond (eqb (digits + length (b ∷ first_of bytes)) 16) (cond t (onward 16 (16 * value + d) (first_of bytes)) None) None)
         pick d true f true g =
             let long : 16 ≤ digits = leb-true 16 digits g in
             rw (g, ne_eqb (digits + length (b ∷ first_of bytes)) 16 (λ same. omega arith)) (read_unclear bytes)
@@ -107,10 +106,10 @@ module _ (word : Word) (count : ℕ) where
             rw (g, lt-ltb value (2 ^ 60) (omega arith)) (ih d (ltb-true d 16 f) ∙ ap (λ (n : ℕ). more (next n d)) one)
         pick d false f u g = read_unclear bytes ∙ neither (eqb (digits + length (b ∷ first_of bytes)) 16)
 
-        go : (z : Digit) → read_from (with_digit 16 z (double_with q) Unclear) bytes
+        go : (z : Option ℕ) → read_from (with_digit 16 z (double_with q) Unclear) bytes
             ≡ more (cond (eqb (digits + length (b ∷ first_of bytes)) 16)
-            (with_digit 16 z (λ d. onward 16 (16 * value + d) (first_of bytes)) none) none)
-        go (Value d) = pick d (ltb d 16) refl (leb 16 digits) refl
+            (with_digit 16 z (λ d. onward 16 (16 * value + d) (first_of bytes)) None) None)
+        go (Some d) = pick d (ltb d 16) refl (leb 16 digits) refl
         go None = read_unclear bytes ∙ neither (eqb (digits + length (b ∷ first_of bytes)) 16)
 
   read_asking : (bytes : List ℕ) (digits value : ℕ) → value < 16 ^ digits → Reads digits value bytes

@@ -3,6 +3,7 @@
 use mathlib.Core.Path.{◌≡◌, refl, ap, ◌∙◌}
 use mathlib.Core.List.{List, [], ◌∷◌}
 use Prim.Native.Nat.{ℕ, zero, suc}
+use Rattle.std.specs.Prelude.{Some}
 use Rattle.line.specs.Numeral.{count_of}
 use Rattle.line.specs.Line.{Meaning, of_doubles, first_of, later_of, doubles_of, numbers_of}
 use Rattle.line.specs.Next.{asked_of, listing_of}
@@ -12,8 +13,8 @@ use Rattle.line.specs.declared.answer.Found.TheVariants.{Number as IsNumber}
 use Rattle.line.proofs.Laws.Doubles.{joined_number, joined_doubles, read_doubles}
 use Rattle.line.proofs.Laws.Count.{read_count}
 
-joined_numbers : (v n : ℕ) (words : List (List ℕ)) (k l : List ℕ → Meaning) → ((vs : List ℕ) → joined (IsNumber v) (k vs) ≡ l vs)
-    → joined (IsNumber v) (numbers_of n words k) ≡ numbers_of n words l
+joined_numbers : (v n : ℕ) (words : List (List ℕ)) (k l : List ℕ → Meaning) → ((vs : List ℕ) → joined (Some (IsNumber v)) (k vs) ≡ l vs)
+    → joined (Some (IsNumber v)) (numbers_of n words k) ≡ numbers_of n words l
 unfolding numbers_of
 joined_numbers v zero words k l h = joined_doubles v words k l h
 joined_numbers v (suc n) [] k l h = refl
@@ -36,7 +37,7 @@ module _ (word : Word) (many : ℕ) where
       (λ n. before n [] (numbers_end left)) (λ n more. before n (first_of more ∷ later_of more) (read_numbers left more)) bytes
     where
       before : (n : ℕ) (rest : List (List ℕ)) {m : Meaning} → m ≡ numbers_of left rest (of_doubles word many)
-          → joined (IsNumber n) m ≡ numbers_of left rest (λ vs. of_doubles word many (n ∷ vs))
+          → joined (Some (IsNumber n)) m ≡ numbers_of left rest (λ vs. of_doubles word many (n ∷ vs))
       before n rest e =
-          ap (joined (IsNumber n)) e
+          ap (joined (Some (IsNumber n))) e
           ∙ joined_numbers n left rest (of_doubles word many) (λ vs. of_doubles word many (n ∷ vs)) (λ vs. refl)

@@ -1,20 +1,20 @@
 -- A line read byte by byte, from any point of it. In order: after a space, and after another byte; an unclear line, and a comment, stay so.
 -- Assumes nothing.
-use mathlib.Core.Path.{◌≡◌, refl, ◌∙◌}
+use mathlib.Core.Path.{◌≡◌, refl, ap, ◌∙◌}
 use mathlib.Core.Bool.{Bool, true, false}
 use mathlib.Core.List.{List, [], ◌∷◌}
 use Prim.Native.Nat.{ℕ}
 use lib.Dec.{eqb}
 use Rattle.line.specs.Line.{Meaning, copied, unclear, first_of, later_of}
-use Rattle.line.specs.Next.{next_of, ended_of, parted_of, grown_of}
-use Rattle.line.specs.Read.{joined, read_from}
+use Rattle.line.specs.Next.{only, next_of, ended_of, parted_of, grown_of}
+use Rattle.line.specs.Read.{joined, end_meaning, read_from}
 use Rattle.line.specs.declared.answer.Line.{Line}
 use Rattle.line.specs.declared.answer.Line.TheVariants.{Comment, Unclear}
 use Rattle.line.specs.declared.answer.Step.{Step}
 
 -- what a line comes to after a step
-abbrev pub after : Step → List ℕ → Meaning
-after s bytes = joined s.found (read_from s.line bytes)
+abbrev pub after : Step Line → List ℕ → Meaning
+after s bytes = joined s.found (read_from s.to bytes)
 
 module _ (b : ℕ) (bytes : List ℕ) (e : eqb b 32 ≡ true) where
   pub space_read : (line : Line) → read_from line (b ∷ bytes) ≡ after (parted_of line) bytes
@@ -42,21 +42,21 @@ module _ (b : ℕ) (bytes : List ℕ) (e : eqb b 32 ≡ false) where
   unfolding later_of
   other_later = rw e refl
 
--- ---- a line that is over
-pub read_unclear : (bytes : List ℕ) → read_from Unclear bytes ≡ unclear
-unfolding read_from ended_of
-read_unclear [] = refl
-read_unclear (b ∷ bytes) = go (eqb b 32) refl (read_unclear bytes)
+-- ---- a line that is over: no byte alters it
+over : (line : Line) (m : Meaning) → end_meaning (ended_of line) ≡ m → parted_of line ≡ only line → ((b : ℕ) → grown_of line b ≡ only line)
+    → (bytes : List ℕ) → read_from line bytes ≡ m
+unfolding read_from
+over line m ends parted grown [] = ends
+over line m ends parted grown (b ∷ bytes) = go (eqb b 32) refl (over line m ends parted grown bytes)
   where
-    go : (t : Bool) → eqb b 32 ≡ t → read_from Unclear bytes ≡ unclear → read_from Unclear (b ∷ bytes) ≡ unclear
-    go true e ih = space_read b bytes e Unclear ∙ ih
-    go false e ih = other_read b bytes e Unclear ∙ ih
+    go : (t : Bool) → eqb b 32 ≡ t → read_from line bytes ≡ m → read_from line (b ∷ bytes) ≡ m
+    go true e ih = space_read b bytes e line ∙ ap (λ s. after s bytes) parted ∙ ih
+    go false e ih = other_read b bytes e line ∙ ap (λ s. after s bytes) (grown b) ∙ ih
+
+pub read_unclear : (bytes : List ℕ) → read_from Unclear bytes ≡ unclear
+unfolding ended_of
+read_unclear bytes = over Unclear unclear refl refl (λ b. refl) bytes
 
 pub read_comment : (bytes : List ℕ) → read_from Comment bytes ≡ copied
-unfolding read_from ended_of
-read_comment [] = refl
-read_comment (b ∷ bytes) = go (eqb b 32) refl (read_comment bytes)
-  where
-    go : (t : Bool) → eqb b 32 ≡ t → read_from Comment bytes ≡ copied → read_from Comment (b ∷ bytes) ≡ copied
-    go true e ih = space_read b bytes e Comment ∙ ih
-    go false e ih = other_read b bytes e Comment ∙ ih
+unfolding ended_of
+read_comment bytes = over Comment copied refl refl (λ b. refl) bytes

@@ -6,7 +6,8 @@ use mathlib.Core.List.{List, [], ◌∷◌}
 use Prim.Native.Nat.{ℕ, ◌+◌, ◌*◌, ◌^◌}
 use lib.Dec.{eqb, ltb}
 use borrow.Author.Tests.{eqb-true}
-use Rattle.line.specs.Numeral.{Numeral, none, count_of}
+use Rattle.std.specs.Prelude.{Option, Some, None}
+use Rattle.line.specs.Numeral.{count_of}
 use Rattle.line.specs.Word.{word_of, form_of}
 use Rattle.line.specs.Line.{Meaning, copied, unclear, of_doubles, first_of, later_of, with_number, doubles_of, numbers_of, bytes_of}
 use Rattle.line.specs.Line.{file_in, in_form, of_word, name_of, meaning_of}
@@ -16,8 +17,6 @@ use Rattle.line.specs.declared.answer.Word.{Word}
 use Rattle.line.specs.declared.answer.Line.TheVariants.{Empty, Comment, Unclear, Naming}
 use Rattle.line.specs.declared.word.Form.{Form}
 use Rattle.line.specs.declared.word.Form.TheVariants.{Doubles, Counted, Counts, File}
-use Rattle.line.specs.declared.word.Known.{Known}
-use Rattle.line.specs.declared.word.Known.TheVariants.{Word as Is, None}
 use Rattle.line.proofs.Laws.Read.{space_read, space_first, space_later, other_read, other_first, other_later}
 use Rattle.line.proofs.Laws.Read.{read_unclear, read_comment}
 use Rattle.line.proofs.Laws.Doubles.{read_doubles}
@@ -33,8 +32,8 @@ form_ends Counted word = refl
 form_ends Counts word = refl
 form_ends File word = refl
 
-known_ends : (known : Known) → bare (asked_of (known_of known)) ≡ of_word known []
-known_ends (Is word) = form_ends (form_of word) word
+known_ends : (known : Option Word) → bare (asked_of (known_of known)) ≡ of_word known []
+known_ends (Some word) = form_ends (form_of word) word
 known_ends None = refl
 
 form_goes : (form : Form) (word : Word) → form_of word ≡ form → (bytes : List ℕ)
@@ -48,12 +47,12 @@ form_goes Counts word e bytes =
     (λ n more. rw e (read_numbers word n n more)) bytes
 form_goes File word e bytes = read_count word 0 0 (λ n rest. file_in rest n) (λ n. rw e refl) (λ n more. rw e (read_file n more)) bytes
 
-known_goes : (known : Known) (bytes : List ℕ) → read_from (known_of known) bytes ≡ of_word known (first_of bytes ∷ later_of bytes)
-known_goes (Is word) bytes = form_goes (form_of word) word refl bytes
+known_goes : (known : Option Word) (bytes : List ℕ) → read_from (known_of known) bytes ≡ of_word known (first_of bytes ∷ later_of bytes)
+known_goes (Some word) bytes = form_goes (form_of word) word refl bytes
 known_goes None bytes = read_unclear bytes
 
 -- ---- the first word
-named : List (List ℕ) → Numeral → Meaning
+named : List (List ℕ) → Option ℕ → Meaning
 named later z = with_number z (λ letters. of_word (word_of letters) later)
 
 Reads : ℕ → List ℕ → Type 0
@@ -66,7 +65,7 @@ unfolding Reads named name_of
 letter letters b bytes ih = go (eqb b 0) (ltb letters (2 ^ 56))
   where
     go : (t u : Bool) → read_from (cond t Unclear (cond u (Naming (256 * letters + b)) Unclear)) bytes
-        ≡ named (later_of bytes) (cond t none (cond u (name_of (256 * letters + b) (first_of bytes)) none))
+        ≡ named (later_of bytes) (cond t None (cond u (name_of (256 * letters + b) (first_of bytes)) None))
     go true u = read_unclear bytes
     go false true = ih
     go false false = read_unclear bytes

@@ -1,36 +1,30 @@
 -- What the inner functions find is what `pieces` has over whole numbers. In order: accepted pieces, and what their boxes have in common; two signs; a
--- point; the sides of two ends; all pieces, by the tests; accepted points are not refused. Assumes nothing.
+-- point; the sides of two ends; all pieces, by the tests. Assumes nothing.
 use mathlib.Core.Path.{◌≡◌, refl, sym, ap, ap₂, ◌∙◌}
-use mathlib.Core.Bool.{Bool, cond}
+use mathlib.Core.Bool.{Bool, true, false, cond}
 use Prim.Native.Nat.{zero, suc}
+use Rattle.std.specs.Prelude.{Option, None, Some}
 use lib.IntN.{ℤ, pos, negsuc}
 use lib.Ieee.{lt}
 use Rattle.whole.specs.Sign.{sgn}
 use Rattle.ground.specs.Compare.{is_zero}
 use Rattle.ground.specs.Edge.{side_of_edge}
 use Rattle.ground.proofs.Laws.Compare.{sgn_is_zero}
-use Rattle.refusal.specs.declared.Refusal.{Refusal}
-use Rattle.refusal.proofs.Laws.Outcome.{never}
 use Rattle.point.specs.declared.Point.{Point}
-use Rattle.point.specs.Accepted.{Accepted}
 use Rattle.point.specs.Spot.{spot_of}
 use Rattle.point.proofs.Laws.Worths.{RealPoint, accepted_point, lt_worth}
 use Rattle.sum.specs.Total.{sign_number}
 use Rattle.sum.specs.declared.answer.Sign.{Sign}
 use Rattle.sum.specs.declared.answer.Sign.TheVariants.{Minus, Zero, Plus}
-use Rattle.geometry.specs.Side.{SignSays}
-use Rattle.geometry.specs.declared.answer.SideSign.{SideSign}
-use Rattle.geometry.specs.declared.answer.SideSign.TheVariants.{Of, Refused}
-use Rattle.geometry.proofs.Laws.SignCalls.{sign_answers}
 use Rattle.pieces.specs.Meeting as words
 use Rattle.pieces.specs.Parts as found
 use Rattle.pieces.proofs.Laws.Through.{near_is}
 use Rattle.meeting.specs.Meet.{edge_of, meeting_said}
-use Rattle.meeting.specs.Parts.{AcceptedPiece, common_of, InCommon, range_of, on_line_by, by_end_by, is_dot_by, SideIs, Opposed, sides_by, sides_said}
+use Rattle.meeting.specs.Parts.{AcceptedPiece, ranges_of, shared_of, InCommon, range_of, on_line_by, by_end_by, is_dot_by, SideIs, Opposed, sides_by, sides_said}
 use Rattle.meeting.specs.declared.answer.Piece.{Piece}
-use Rattle.meeting.specs.declared.ranges.Range.{Range}
+use Rattle.meeting.specs.declared.ranges.Shared.{Shared}
 use Rattle.meeting.specs.declared.sided.Sides.{Sides}
-use Rattle.meeting.proofs.Laws.Worths.{RealRange, common_real, common_worth, on_line_worth, by_end_worth, dot_worth}
+use Rattle.meeting.proofs.Laws.Worths.{RealRange, chosen, common_real, common_worth, on_line_worth, by_end_worth, dot_worth}
 
 -- ---- accepted pieces
 pub from_real : (a : Piece) → AcceptedPiece a → RealPoint a.from
@@ -43,46 +37,44 @@ dot_found : (a : Piece) → AcceptedPiece a → is_dot_by a ≡ found.is_dot (ed
 dot_found a A = dot_worth a (from_real a A) (to_real a A)
 
 module _ (a b : Piece) (A : AcceptedPiece a) (B : AcceptedPiece b) where
-  abbrev x_found : Range
-  x_found = common_of a.from.x a.to.x b.from.x b.to.x
+  -- the ranges along both axes, which may be empty
+  abbrev ranges : Shared
+  ranges = ranges_of a b
 
-  abbrev y_found : Range
-  y_found = common_of a.from.y a.to.y b.from.y b.to.y
-
-  x_real : RealRange x_found
+  x_real : RealRange ranges.x
   x_real =
       common_real a.from.x a.to.x b.from.x b.to.x (from_real a A).x (to_real a A).x (from_real b B).x (to_real b B).x
 
-  y_real : RealRange y_found
+  y_real : RealRange ranges.y
   y_real =
       common_real a.from.y a.to.y b.from.y b.to.y (from_real a A).y (to_real a A).y (from_real b B).y (to_real b B).y
 
-  x_worth : range_of x_found ≡ found.common_x (edge_of a) (edge_of b)
+  x_worth : range_of ranges.x ≡ found.common_x (edge_of a) (edge_of b)
   x_worth =
       common_worth a.from.x a.to.x b.from.x b.to.x (from_real a A).x (to_real a A).x (from_real b B).x (to_real b B).x
 
-  y_worth : range_of y_found ≡ found.common_y (edge_of a) (edge_of b)
+  y_worth : range_of ranges.y ≡ found.common_y (edge_of a) (edge_of b)
   y_worth =
       common_worth a.from.y a.to.y b.from.y b.to.y (from_real a A).y (to_real a A).y (from_real b B).y (to_real b B).y
 
   -- nothing in common along an axis
-  x_empty : lt x_found.most x_found.least ≡ found.is_empty (found.common_x (edge_of a) (edge_of b))
-  x_empty = lt_worth x_found.most x_found.least x_real.most x_real.least ∙ ap found.is_empty x_worth
+  x_empty : lt ranges.x.most ranges.x.least ≡ found.is_empty (found.common_x (edge_of a) (edge_of b))
+  x_empty = lt_worth ranges.x.most ranges.x.least x_real.most x_real.least ∙ ap found.is_empty x_worth
 
-  y_empty : lt y_found.most y_found.least ≡ found.is_empty (found.common_y (edge_of a) (edge_of b))
-  y_empty = lt_worth y_found.most y_found.least y_real.most y_real.least ∙ ap found.is_empty y_worth
+  y_empty : lt ranges.y.most ranges.y.least ≡ found.is_empty (found.common_y (edge_of a) (edge_of b))
+  y_empty = lt_worth ranges.y.most ranges.y.least y_real.most y_real.least ∙ ap found.is_empty y_worth
 
-  module _ {x y : Range} (i : InCommon a b x y) where
-    pub on_line_found : meeting_said (on_line_by x y) ≡ found.on_line (found.common_x (edge_of a) (edge_of b)) (found.common_y (edge_of a) (edge_of b))
+  module _ {s : Shared} (i : InCommon a b s) where
+    pub on_line_found : meeting_said (on_line_by s) ≡ found.on_line (found.common_x (edge_of a) (edge_of b)) (found.common_y (edge_of a) (edge_of b))
     on_line_found =
-        ap₂ (λ (r s : Range). meeting_said (on_line_by r s)) i.along_x i.along_y
-        ∙ on_line_worth x_found y_found x_real y_real ∙ ap₂ found.on_line x_worth y_worth
+        ap (λ (r : Shared). meeting_said (on_line_by r)) i
+        ∙ on_line_worth ranges x_real y_real ∙ ap₂ found.on_line x_worth y_worth
 
     pub by_end_found : (p : Point) → RealPoint p
-        → meeting_said (by_end_by x y p) ≡ found.by_end (found.common_x (edge_of a) (edge_of b)) (found.common_y (edge_of a) (edge_of b)) (spot_of p)
+        → meeting_said (by_end_by s p) ≡ found.by_end (found.common_x (edge_of a) (edge_of b)) (found.common_y (edge_of a) (edge_of b)) (spot_of p)
     by_end_found p P =
-        ap₂ (λ (r s : Range). meeting_said (by_end_by r s p)) i.along_x i.along_y
-        ∙ by_end_worth x_found y_found x_real y_real p P
+        ap (λ (r : Shared). meeting_said (by_end_by r p)) i
+        ∙ by_end_worth ranges x_real y_real p P
         ∙ ap₂ (λ (r s : found.Range). found.by_end r s (spot_of p)) x_worth y_worth
 
 -- ---- two signs
@@ -155,16 +147,20 @@ module _ (a b : Piece) (A : AcceptedPiece a) (B : AcceptedPiece b) where
         cond i (cond j words.touching (found.of_dot (edge_of b) (spot_of a.from))) (cond j (found.of_dot (edge_of a) (spot_of b.from)) long))
         (e ∙ dot_found a A) (f ∙ dot_found b B)
 
-  -- whether the boxes have nothing in common along an axis
-  module _ {s t : Bool} (e : s ≡ lt (x_found a b A B).most (x_found a b A B).least) (f : t ≡ lt (y_found a b A B).most (y_found a b A B).least) where
-    pub boxes_found : cond s words.apart (cond t words.apart boxed) ≡ found.decided (edge_of a) (edge_of b)
-    unfolding found.decided
-    boxes_found = ap₂ (λ (i j : Bool). cond i words.apart (cond j words.apart boxed)) (e ∙ x_empty a b A B) (f ∙ y_empty a b A B)
+  -- the word, by what the boxes have in common
+  abbrev worded : Option Shared → words.Meeting
+  worded None = words.apart
+  worded (Some s) = boxed
 
--- ---- accepted points are not refused
-pub never_refused : {A : Type 0} (p q r : Point) (s : SideSign) → Accepted p → Accepted q → Accepted r → SignSays p q r s
-    → (f : Refusal) → s ≡ Refused f → A
-never_refused p q r s P Q R h f e =
-    let (z, g) = sign_answers p q r s P Q R h in
-    let both : Of z ≡ Refused f = sym g ∙ e in
-    never (cc)
+  pub shared_found : (r : Option Shared) → r ≡ shared_of a b → worded r ≡ found.decided (edge_of a) (edge_of b)
+  unfolding found.decided
+  shared_found r e = ap worded e ∙ chosen worded (x_empty a b A B) refl (chosen worded (y_empty a b A B) refl refl)
+
+-- what is in common is so along both axes
+pub found_shared : (a b : Piece) (s : Shared) → Some s ≡ shared_of a b → InCommon a b s
+found_shared a b s e = go (lt (ranges_of a b).x.most (ranges_of a b).x.least) (lt (ranges_of a b).y.most (ranges_of a b).y.least) e
+  where
+    go : (t u : Bool) → Some s ≡ cond t None (cond u None (Some (ranges_of a b))) → s ≡ ranges_of a b
+    go true u f = cc
+    go false true f = cc
+    go false false f = cc

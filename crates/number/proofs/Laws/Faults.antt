@@ -10,6 +10,7 @@ use borrow.Author.Tests.{ltb-false, lt-ltb, le-ltb, eqb-true, eqb-false, eq-eqb,
 use lib.Dec.{eqb, ltb}
 use lib.ListN.{length, drop, get_or}
 use Rattle.refusal.specs.Outcome.{refuses, ends_early, not_shortest}
+use Rattle.refusal.proofs.Laws.Outcome.{never}
 use Rattle.number.specs.Number.{full, Begins, number, early, faulty, above, begins_with, placed, number_of}
 use Rattle.refusal.proofs.Laws.Judged.{cond_yes, cond_no}
 
@@ -47,14 +48,14 @@ continued_rest k b bs c i l = c (suc i) (omega arith)
 
 above_early : (d : ℕ) (g : Begins) → above d g ≡ early → g ≡ early
 unfolding above
-above_early d (number v n) e = absurd (let z : ◌≡◌ {A = ℕ} 0 1 = cc in omega arith)
+above_early d (number v n) e = never (cc)
 above_early d early e = refl
-above_early d faulty e = absurd (let z : ◌≡◌ {A = ℕ} 0 1 = cc in omega arith)
+above_early d faulty e = never (cc)
 
 above_faulty : (d : ℕ) (g : Begins) → above d g ≡ faulty → g ≡ faulty
 unfolding above
-above_faulty d (number v n) e = absurd (let z : ◌≡◌ {A = ℕ} 0 1 = cc in omega arith)
-above_faulty d early e = absurd (let z : ◌≡◌ {A = ℕ} 0 1 = cc in omega arith)
+above_faulty d (number v n) e = never (cc)
+above_faulty d early e = never (cc)
 above_faulty d faulty e = refl
 
 -- what bytes begin with, by the first of them: the last, a last 0 that is not the first, or one that others follow
@@ -64,8 +65,8 @@ module _ (k : ℕ) (later : Bool) (b : ℕ) (bs : List ℕ) where
 
   early_more : (last nought : Bool) → ltb b 128 ≡ last → by_tests last nought ≡ early → (begins_with k true bs ≡ early → EndsBefore k bs)
       → EndsBefore (suc k) (b ∷ bs)
-  early_more true true h e ih = absurd (let z : ◌≡◌ {A = ℕ} 0 1 = cc in omega arith)
-  early_more true false h e ih = absurd (let z : ◌≡◌ {A = ℕ} 0 1 = cc in omega arith)
+  early_more true true h e ih = never (cc)
+  early_more true false h e ih = never (cc)
   early_more false nought h e ih =
       let r = ih (above_early (b - 128) (begins_with k true bs) e) in
       (omega (arith, r.0), continued_more (length bs) b bs (ltb-false b 128 h) r.1)
@@ -75,15 +76,15 @@ module _ (k : ℕ) (later : Bool) (b : ℕ) (bs : List ℕ) where
     where
       go : (s t : Bool) → eqb b 0 ≡ t → s && t ≡ true → Faulty (suc k) s (b ∷ bs)
       go true true z h =
-          zeroes 0 (λ e. absurd (let y : ◌≡◌ {A = ℕ} 0 1 = cc in omega arith)) (omega arith) (omega arith)
+          zeroes 0 (λ e. never (cc)) (omega arith) (omega arith)
           (λ i l. absurd (omega arith)) (eqb-true b 0 z)
-      go true false z h = absurd (let y : ◌≡◌ {A = ℕ} 0 1 = cc in omega arith)
-      go false t z h = absurd (let y : ◌≡◌ {A = ℕ} 0 1 = cc in omega arith)
+      go true false z h = never (cc)
+      go false t z h = never (cc)
 
   faulty_more : (last nought : Bool) → ltb b 128 ≡ last → (later && eqb b 0 ≡ nought) → by_tests last nought ≡ faulty
       → (begins_with k true bs ≡ faulty → Faulty k true bs) → Faulty (suc k) later (b ∷ bs)
   faulty_more true true h z e ih = faulty_zero z
-  faulty_more true false h z e ih = absurd (let y : ◌≡◌ {A = ℕ} 0 1 = cc in omega arith)
+  faulty_more true false h z e ih = never (cc)
   faulty_more false nought h z e ih = go (ih (above_faulty (b - 128) (begins_with k true bs) e))
     where
       go : Faulty k true bs → Faulty (suc k) later (b ∷ bs)
@@ -97,8 +98,8 @@ begins_early k later [] e = (omega arith, λ i l. absurd (omega arith))
 begins_early zero later (b ∷ bs) e = go (eqb b 1) e
   where
     go : (t : Bool) → cond t (number 1 1) faulty ≡ early → EndsBefore zero (b ∷ bs)
-    go true e = absurd (let z : ◌≡◌ {A = ℕ} 0 1 = cc in omega arith)
-    go false e = absurd (let z : ◌≡◌ {A = ℕ} 0 1 = cc in omega arith)
+    go true e = never (cc)
+    go false e = never (cc)
 begins_early (suc k) later (b ∷ bs) e =
     early_more k later b bs (ltb b 128) (later && eqb b 0) refl e (λ h. begins_early k true bs h)
 
@@ -112,11 +113,11 @@ early_begins (suc k) later (b ∷ bs) h =
 
 begins_faulty : (k : ℕ) (later : Bool) (l : List ℕ) → begins_with k later l ≡ faulty → Faulty k later l
 unfolding begins_with
-begins_faulty k later [] e = absurd (let z : ◌≡◌ {A = ℕ} 0 1 = cc in omega arith)
+begins_faulty k later [] e = never (cc)
 begins_faulty zero later (b ∷ bs) e = go (eqb b 1) refl e
   where
     go : (t : Bool) → eqb b 1 ≡ t → cond t (number 1 1) faulty ≡ faulty → Faulty zero later (b ∷ bs)
-    go true h e = absurd (let z : ◌≡◌ {A = ℕ} 0 1 = cc in omega arith)
+    go true h e = never (cc)
     go false h e = bit (omega arith) (λ i l. absurd (omega arith)) (eqb-false b 1 h)
 begins_faulty (suc k) later (b ∷ bs) e =
     faulty_more k later b bs (ltb b 128) (later && eqb b 0) refl refl e (λ h. begins_faulty k true bs h)
@@ -135,19 +136,19 @@ faulty_begins (suc k) false (b ∷ bs) (zeroes zero p l m c is) = absurd (omega 
 faulty_begins (suc k) later (b ∷ bs) (zeroes (suc j) p l m c is) =
     cond_no _ _ (le-ltb b 128 (c 0 (omega arith)))
     ∙ ap (above (b - 128))
-    (faulty_begins k true bs (zeroes j (λ e. absurd (let y : ◌≡◌ {A = ℕ} 0 1 = cc in omega arith)) (omega arith) (omega arith)
+    (faulty_begins k true bs (zeroes j (λ e. never (cc)) (omega arith) (omega arith)
     (continued_rest j b bs c) is))
 
 -- ---- the refusals
 placed_early : (start : ℕ) (g : Begins) → placed start g ≡ refuses ends_early start → g ≡ early
 unfolding placed
-placed_early start (number v n) e = absurd (let z : ◌≡◌ {A = ℕ} 0 1 = cc in omega arith)
+placed_early start (number v n) e = never (cc)
 placed_early start early e = refl
 placed_early start faulty e = absurd (let z : not_shortest ≡ ends_early = cc in omega arith)
 
 placed_faulty : (start : ℕ) (g : Begins) → placed start g ≡ refuses not_shortest start → g ≡ faulty
 unfolding placed
-placed_faulty start (number v n) e = absurd (let z : ◌≡◌ {A = ℕ} 0 1 = cc in omega arith)
+placed_faulty start (number v n) e = never (cc)
 placed_faulty start early e = absurd (let z : ends_early ≡ not_shortest = cc in omega arith)
 placed_faulty start faulty e = refl
 

@@ -15,10 +15,8 @@ use lib.Dec.{eqb, ltb}
 use lib.ListN.{length, drop, get_or, drop_of_length-le}
 use lib.Seq.{drop-cons, drop-drop, drop-append_seam}
 use Rattle.refusal.specs.Outcome.{Outcome, answers, refuses, ends_early, not_shortest, Fixes}
-use Rattle.refusal.proofs.Laws.Outcome.{refuses_once}
+use Rattle.refusal.proofs.Laws.Outcome.{outcome_once, never}
 use Rattle.number.specs.declared.answer.Number.{Number}
-use Rattle.number.specs.declared.answer.Numeral.{Numeral}
-use Rattle.number.specs.declared.answer.Numeral.TheVariants.{Whole, Refused}
 use Rattle.number.specs.Number.{
   groups_of,
   written_of,
@@ -31,7 +29,6 @@ use Rattle.number.specs.Number.{
   begins_with,
   placed,
   number_of,
-  heard,
   NumberSays,
 }
 use Rattle.refusal.proofs.Laws.Judged.{cond_yes, cond_no, Each, each_answers, each_refuses}
@@ -63,25 +60,22 @@ onward_more v w j d (number x n) =
 onward_more v w j d early = refl
 onward_more v w j d faulty = refl
 
--- where the reader stands: j groups are read, of value v
-pub record At (s : List ℕ) (start v w i j : ℕ) : Type 0 where
+-- where the reader of the bytes l, which s has from `start` on, stands: j groups are read, of value v, and the next has weight w
+pub record At (s : List ℕ) (start : ℕ) (l : List ℕ) (v w j : ℕ) : Type 0 where
+  pub from : l ≡ drop start s
   pub few : j ≤ full
-  pub here : i ≡ start + j
   pub small : v < w
   pub weight : w ≡ 128 ^ j
-  pub rest : begins_with full false (drop start s) ≡ onward v w j (begins_with (full - j) (ltb 0 j) (drop i s))
+  pub rest : begins_with full false l ≡ onward v w j (begins_with (full - j) (ltb 0 j) (drop j l))
 
-pub at_start : (s : List ℕ) (start : ℕ) → At s start 0 1 start 0
-at_start s start = record { few = omega arith; here = omega arith; small = omega arith; weight = refl; rest = onward_none _ }
+pub at_start : (s : List ℕ) (start : ℕ) (l : List ℕ) → l ≡ drop start s → At s start l 0 1 0
+at_start s start l e = record { from = e; few = omega arith; small = omega arith; weight = refl; rest = onward_none _ }
 
--- 128 ^ j for the first nine groups, and for the tenth
-pub weight_small : {s : List ℕ} {start v w i j : ℕ} → At s start v w i j → j < full → w ≤ 2 ^ 56
-weight_small {j = j} a h = rw a.weight (pow-le-pow_right {n = 128} (omega arith) {i = j} {j = 8} (omega arith))
-
-pub weight_last : {s : List ℕ} {start v w i j : ℕ} → At s start v w i j → full ≤ j → w ≡ 2 ^ 63
-weight_last {j = j} a h =
-    let e : j ≡ 9 = omega arith in
-    rw (a.weight, e) refl
+-- 128 ^ j for the first nine groups
+pub weight_small : {s : List ℕ} {start : ℕ} {l : List ℕ} {v w j : ℕ} → At s start l v w j → (j ≡ full → ⊥) → w ≤ 2 ^ 56
+weight_small {j = j} a h =
+    let m : j < full = omega (arith, a.few) in
+    rw a.weight (pow-le-pow_right {n = 128} (omega arith) {i = j} {j = 8} (omega arith))
 
 -- a group's value at its weight
 group_fits : (v w b : ℕ) → v < w → b < 128 → v + b * w < 128 * w
@@ -89,76 +83,78 @@ group_fits v w b hv hb =
     let m : b * w ≤ 127 * w = mul-le-mul_right w (omega arith) in
     omega arith
 
-pub value_fits : {s : List ℕ} {start v w i j : ℕ} → At s start v w i j → j < full → (b : ℕ) → b < 128
-    → Fits w64 (b * w) × Fits w64 (v + b * w)
+pub value_fits : {s : List ℕ} {start : ℕ} {l : List ℕ} {v w j : ℕ} → At s start l v w j → (j ≡ full → ⊥) → (b : ℕ) → b < 128 → Fits w64 (b * w) × Fits w64 (v + b * w)
 value_fits {v = v} {w = w} a hj b hb = omega (arith, weight_small a hj, group_fits v w b a.small hb)
 
--- before the first group nothing is read
-pub first_zero : {s : List ℕ} {start v w i j : ℕ} → At s start v w i j → j ≡ 0 → v ≡ 0
-first_zero {v = v} {w = w} {j = j} a e =
-    let one : w ≡ 1 = rw (a.weight, e) refl in
-    omega (arith, a.small)
-
-pub group_shortest : (t : Bool) {b : ℕ} → (b ≡ 0 → ⊥) → t && eqb b 0 ≡ false
-group_shortest true h = ne_eqb _ _ h
-group_shortest false h = refl
+-- a last group is 0 only before any other
+pub group_shortest : (j b : ℕ) → (b ≡ 0 → j ≡ 0) → ltb 0 j && eqb b 0 ≡ false
+group_shortest zero b h = refl
+group_shortest (suc j) b h = rw (lt-ltb 0 (suc j) (omega arith)) (ne_eqb b 0 (λ e. absurd (omega (arith, h e))))
 
 abbrev pub placed_at : ℕ → ℕ → Outcome Number
 placed_at v next = answers (record { value = v; next = next })
 
-module _ (s : List ℕ) (start v w i j : ℕ) (a : At s start v w i j) where
+module _ (s : List ℕ) (start : ℕ) (l : List ℕ) (v w j : ℕ) (a : At s start l v w j) where
   -- what the number is, by what the groups from here on are
-  number_by : (g : Begins) → begins_with (full - j) (ltb 0 j) (drop i s) ≡ g → placed start (onward v w j g) ≡ number_of s start
+  number_by : (g : Begins) → begins_with (full - j) (ltb 0 j) (drop j l) ≡ g → placed start (onward v w j g) ≡ number_of s start
   unfolding number_of
-  number_by g e = ap (λ (h : Begins). placed start (onward v w j h)) (sym e) ∙ ap (placed start) (sym a.rest)
+  number_by g e =
+      ap (λ (h : Begins). placed start (onward v w j h)) (sym e) ∙ ap (placed start) (sym a.rest)
+      ∙ ap (λ (z : List ℕ). placed start (begins_with full false z)) a.from
 
-  pub number_ends : length s ≤ i → refuses ends_early start ≡ number_of s start
+  pub number_ends : length l ≤ j → refuses ends_early start ≡ number_of s start
   unfolding placed begins_with onward
-  number_ends h = number_by early (ap (begins_with (full - j) (ltb 0 j)) (drop_of_length-le s h))
+  number_ends h = number_by early (ap (begins_with (full - j) (ltb 0 j)) (drop_of_length-le l h))
 
-  module _ (h : i < length s) (b : ℕ) (eb : b ≡ get_or s i 0) where
+  module _ (h : j < length l) (b : ℕ) (eb : b ≡ get_or l j 0) where
     -- the groups from a byte on
-    head : (k : ℕ) → full - j ≡ k → begins_with (full - j) (ltb 0 j) (drop i s) ≡ begins_with k (ltb 0 j) (b ∷ drop (i + 1) s)
-    head k e = rw (e, add-one, drop-cons s i 0, ← eb)
+    head : (k : ℕ) → full - j ≡ k → begins_with (full - j) (ltb 0 j) (drop j l) ≡ begins_with k (ltb 0 j) (b ∷ drop (j + 1) l)
+    head k e = rw (e, add-one, drop-cons l j 0, ← eb)
 
-    pub number_zero : j < full → b < 128 → b ≡ 0 → 0 < j → refuses not_shortest start ≡ number_of s start
+    pub number_zero : (j ≡ full → ⊥) → b ≡ 0 → 0 < j → refuses not_shortest start ≡ number_of s start
     unfolding placed begins_with onward
-    number_zero hj hb z l =
-        let t : ltb 0 j && eqb b 0 ≡ true = rw (lt-ltb 0 j l) (eq-eqb _ _ z) in
-        number_by faulty (head (suc (8 - j)) (omega arith) ∙ cond_yes _ _ (lt-ltb _ _ hb) ∙ cond_yes _ _ t)
+    number_zero hj z p =
+        let t : ltb 0 j && eqb b 0 ≡ true = rw (lt-ltb 0 j p) (eq-eqb _ _ z) in
+        number_by faulty (head (suc (8 - j)) (omega (arith, a.few)) ∙ cond_yes _ _ (lt-ltb b 128 (omega arith)) ∙ cond_yes _ _ t)
 
-    pub number_value : j < full → b < 128 → (ltb 0 j && eqb b 0 ≡ false) → placed_at (v + b * w) (i + 1) ≡ number_of s start
+    pub number_value : (j ≡ full → ⊥) → b < 128 → (b ≡ 0 → j ≡ 0) → placed_at (v + b * w) (start + j + 1) ≡ number_of s start
     unfolding placed begins_with onward
     number_value hj hb z =
         let p : v + b * w ≡ v + w * b = ap (λ (n : ℕ). v + n) (mul_comm b w) in
-        let q : i + 1 ≡ start + (j + 1) = omega (arith, a.here) in
+        let q : start + j + 1 ≡ start + (j + 1) = omega arith in
         (λ k. placed_at (p k) (q k))
-        ∙ number_by (number b 1) (head (suc (8 - j)) (omega arith) ∙ cond_yes _ _ (lt-ltb _ _ hb) ∙ cond_no _ _ z)
+        ∙ number_by (number b 1)
+        (head (suc (8 - j)) (omega (arith, a.few)) ∙ cond_yes _ _ (lt-ltb _ _ hb) ∙ cond_no _ _ (group_shortest j b z))
 
-    pub at_next : j < full → 128 ≤ b → b < 256 → At s start (v + (b - 128) * w) (w * 128) (i + 1) (j + 1)
+    pub at_next : (j ≡ full → ⊥) → 128 ≤ b → b < 256 → At s start l (v + (b - 128) * w) (w * 128) (j + 1)
     unfolding begins_with
     at_next hj hb hc =
         let p : 8 - j ≡ full - (j + 1) = omega arith in
         let q : true ≡ ltb 0 (j + 1) = sym (lt-ltb 0 (j + 1) (omega arith)) in record {
-          few = omega arith;
-          here = omega (arith, a.here);
+          from = a.from;
+          few = omega (arith, a.few);
           small = omega (arith, group_fits v w (b - 128) a.small (omega arith));
           weight = rw (a.weight, add-one, pow-suc) refl;
-          rest = a.rest ∙ ap (onward v w j) (head (suc (8 - j)) (omega arith) ∙ cond_no _ _ (le-ltb _ _ hb))
+          rest = a.rest ∙ ap (onward v w j) (head (suc (8 - j)) (omega (arith, a.few)) ∙ cond_no _ _ (le-ltb _ _ hb))
               ∙ onward_more v w j (b - 128) _
-              ∙ (λ k. onward (v + (b - 128) * w) (w * 128) (j + 1) (begins_with (p k) (q k) (drop (i + 1) s)));
+              ∙ (λ k. onward (v + (b - 128) * w) (w * 128) (j + 1) (begins_with (p k) (q k) (drop (j + 1) l)));
         }
 
-    pub number_tenth : full ≤ j → cond (eqb b 1) (placed_at (v + w) (i + 1)) (refuses not_shortest start) ≡ number_of s start
+    pub number_tenth : j ≡ full → cond (eqb b 1) (placed_at (v + w) (start + j + 1)) (refuses not_shortest start) ≡ number_of s start
     unfolding placed begins_with onward
     number_tenth hj = go (eqb b 1) refl
       where
-        go : (t : Bool) → eqb b 1 ≡ t → cond t (placed_at (v + w) (i + 1)) (refuses not_shortest start) ≡ number_of s start
+        go : (t : Bool) → eqb b 1 ≡ t → cond t (placed_at (v + w) (start + j + 1)) (refuses not_shortest start) ≡ number_of s start
         go true e =
             let p : v + w ≡ v + w * 1 = omega arith in
-            let q : i + 1 ≡ start + (j + 1) = omega (arith, a.here) in
+            let q : start + j + 1 ≡ start + (j + 1) = omega arith in
             (λ k. placed_at (p k) (q k)) ∙ number_by (number 1 1) (head 0 (omega arith) ∙ cond_yes _ _ e)
         go false e = number_by faulty (head 0 (omega arith) ∙ cond_no _ _ e)
+
+-- from past the bytes' end on there are none
+pub number_past : (s : List ℕ) (start : ℕ) → length s ≤ start → refuses ends_early start ≡ number_of s start
+number_past s start h =
+    number_ends s start (drop start s) 0 1 0 (at_start s start _ refl) (omega (arith, ap length (drop_of_length-le s h)))
 
 -- ---- a written number is read back
 allowed : (later : Bool) (v : ℕ) → (later ≡ true → 0 < v) → later && eqb v 0 ≡ false
@@ -192,7 +188,7 @@ groups_read (suc k) v later rest l h z =
 
 number_written : (v : ℕ) (rest : List ℕ) → v < 2 ^ 64 → begins_with full false (written_of v ++ rest) ≡ number v (length (written_of v))
 unfolding written_of
-number_written v rest h = groups_read full v false rest h (λ e. absurd (let z : ◌≡◌ {A = ℕ} 0 1 = cc in omega arith)) (λ e. omega arith)
+number_written v rest h = groups_read full v false rest h (λ e. never (cc)) (λ e. omega arith)
 
 -- at its offset: the number is answered, and what follows it begins at the offset after it
 pub number_back : (file : List ℕ) (start v : ℕ) (rest : List ℕ) → v < 2 ^ 64 → drop start file ≡ written_of v ++ rest
@@ -218,11 +214,5 @@ number_each such bytes start six seven = go (begins_with full false (drop start 
     go faulty six seven = each_refuses such not_shortest start (seven refl)
 
 -- ---- the promise, which no two results satisfy
-heard_once : (a b : Numeral) → heard a ≡ heard b → a ≡ b
-heard_once (Whole m) (Whole n) e = let p : m ≡ n = cc in ap Whole p
-heard_once (Refused r) (Refused q) e = ap Refused (refuses_once {A = Number} r q e)
-heard_once (Whole m) (Refused q) e = absurd (let z : ◌≡◌ {A = ℕ} 0 1 = cc in omega arith)
-heard_once (Refused r) (Whole n) e = absurd (let z : ◌≡◌ {A = ℕ} 0 1 = cc in omega arith)
-
 pub number_at_fixed : (bytes : List ℕ) (start : ℕ) → Fixes (NumberSays bytes start)
-number_at_fixed bytes start a b p q = heard_once a b (p ∙ sym q)
+number_at_fixed bytes start a b p q = outcome_once _ (λ m n e. e) a b (p ∙ sym q)

@@ -12,6 +12,7 @@ use lib.Dec.{eqb, ltb}
 use lib.ListN.{length, take, drop}
 use lib.Seq.{drop-drop, get_or-drop, take-nil}
 use Rattle.refusal.specs.Outcome.{answers}
+use Rattle.refusal.proofs.Laws.Outcome.{never}
 use Rattle.number.specs.declared.answer.Number.{Number}
 use Rattle.number.specs.Number.{groups_of, written_of, full, Bytes, Begins, number, early, faulty, above, begins_with, placed, number_of}
 use Rattle.number.proofs.Laws.Written.{Held, groups_last, groups_more}
@@ -28,8 +29,8 @@ above_number : (d : ℕ) (g : Begins) {v n : ℕ} → above d g ≡ number v n
     → (w : ℕ) × (m : ℕ) × (g ≡ number w m) × (v ≡ d + 128 * w) × (n ≡ m + 1)
 unfolding above
 above_number d (number w m) e = (w, m, refl, cc, cc)
-above_number d early e = absurd (let z : ◌≡◌ {A = ℕ} 0 1 = cc in omega arith)
-above_number d faulty e = absurd (let z : ◌≡◌ {A = ℕ} 0 1 = cc in omega arith)
+above_number d early e = never (cc)
+above_number d faulty e = never (cc)
 
 -- the one bit that is left after the full groups
 taken_bit : (t : Bool) (later : Bool) (b : ℕ) (bs : List ℕ) {v n : ℕ} → eqb b 1 ≡ t → cond t (number 1 1) faulty ≡ number v n
@@ -40,12 +41,12 @@ taken_bit true later b bs {v} {n} h e =
     let p : v ≡ 1 = cc in
     let q : n ≡ 1 = cc in
     rw (p, q, one) (record { held = omega arith; same = refl; size = refl; some = λ _. omega arith })
-taken_bit false later b bs h e = absurd (let z : ◌≡◌ {A = ℕ} 0 1 = cc in omega arith)
+taken_bit false later b bs h e = never (cc)
 
 -- a last group
 taken_last : (t : Bool) (k : ℕ) (later : Bool) (b : ℕ) (bs : List ℕ) {v n : ℕ} → b < 128 → later && eqb b 0 ≡ t
     → cond t faulty (number b 1) ≡ number v n → Taken (suc k) later (b ∷ bs) v n
-taken_last true k later b bs l h e = absurd (let z : ◌≡◌ {A = ℕ} 0 1 = cc in omega arith)
+taken_last true k later b bs l h e = never (cc)
 taken_last false k later b bs {v} {n} l h e =
     let p : v ≡ b = cc in
     let q : n ≡ 1 = cc in
@@ -60,9 +61,9 @@ taken_last false k later b bs {v} {n} l h e =
         powers (suc k) = omega (arith, powers k, pow-suc 128 k)
 
     positive : (later : Bool) (b : ℕ) → later ≡ true → later && eqb b 0 ≡ false → 0 < b
-    positive true zero s h = absurd (let z : ◌≡◌ {A = Bool} true false = h in let y : ◌≡◌ {A = ℕ} 0 1 = cc in omega arith)
+    positive true zero s h = absurd (let z : ◌≡◌ {A = Bool} true false = h in never (cc))
     positive true (suc b) s h = omega arith
-    positive false b s h = absurd (let y : ◌≡◌ {A = ℕ} 0 1 = cc in omega arith)
+    positive false b s h = never (cc)
 
 -- a group before the last
 taken_more : (k : ℕ) (later : Bool) (b : ℕ) (bs : List ℕ) {w m v n : ℕ} → 128 ≤ b → b < 256 → Taken k true bs w m → v ≡ b - 128 + 128 * w
@@ -82,7 +83,7 @@ taken_more k later b bs {w} {m} {v} {n} l u t p q =
 
 taken : (k : ℕ) (later : Bool) (l : List ℕ) {v n : ℕ} → Bytes l → begins_with k later l ≡ number v n → Taken k later l v n
 unfolding begins_with
-taken k later [] all e = absurd (let z : ◌≡◌ {A = ℕ} 0 1 = cc in omega arith)
+taken k later [] all e = never (cc)
 taken zero later (b ∷ bs) all e = taken_bit (eqb b 1) later b bs refl e
 taken (suc k) later (b ∷ bs) all e =
     by (ltb b 128) refl e (λ w m h. taken k true bs {v = w} {n = m} (λ i. all (suc i)) h)
@@ -102,8 +103,8 @@ unfolding placed
 placed_number start (number v n) m e =
     let same : record { value = v; next = start + n } ≡ m = cc in
     (n, ap (λ (z : Number). number z.value n) same, ap (λ (z : Number). z.next) (sym same))
-placed_number start early m e = absurd (let z : ◌≡◌ {A = ℕ} 0 1 = cc in omega arith)
-placed_number start faulty m e = absurd (let z : ◌≡◌ {A = ℕ} 0 1 = cc in omega arith)
+placed_number start early m e = never (cc)
+placed_number start faulty m e = never (cc)
 
 -- what is read is what is written: so only shortest forms of 64 bits are
 pub record Read (file : List ℕ) (start : ℕ) (m : Number) : Type 0 where
@@ -126,17 +127,17 @@ number_read file start m all e =
 -- ---- how far a reader looks
 beginning_few : (k : ℕ) (later : Bool) (l : List ℕ) {v n : ℕ} → begins_with k later l ≡ number v n → n ≤ k + 1
 unfolding begins_with
-beginning_few k later [] e = absurd (let z : ◌≡◌ {A = ℕ} 0 1 = cc in omega arith)
+beginning_few k later [] e = never (cc)
 beginning_few zero later (b ∷ bs) {v} {n} e = go (eqb b 1) e
   where
     go : (t : Bool) → cond t (number 1 1) faulty ≡ number v n → n ≤ zero + 1
     go true e = let q : n ≡ 1 = cc in omega arith
-    go false e = absurd (let z : ◌≡◌ {A = ℕ} 0 1 = cc in omega arith)
+    go false e = never (cc)
 beginning_few (suc k) later (b ∷ bs) {v} {n} e = go (ltb b 128) (later && eqb b 0) e (λ w m h. beginning_few k true bs {v = w} {n = m} h)
   where
     go : (t s : Bool) → cond t (cond s faulty (number b 1)) (above (b - 128) (begins_with k true bs)) ≡ number v n
         → ((w m : ℕ) → begins_with k true bs ≡ number w m → m ≤ k + 1) → n ≤ suc k + 1
-    go true true e ih = absurd (let z : ◌≡◌ {A = ℕ} 0 1 = cc in omega arith)
+    go true true e ih = never (cc)
     go true false e ih = let q : n ≡ 1 = cc in omega arith
     go false s e ih =
         let a = above_number (b - 128) (begins_with k true bs) e in

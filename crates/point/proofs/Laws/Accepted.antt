@@ -4,6 +4,7 @@
 use mathlib.Core.Path.{◌≡◌, refl, sym, ap, ap₂, ◌∙◌, subst}
 use mathlib.Core.Logic.{◌⊎◌, inl, inr}
 use mathlib.Core.Bool.{Bool, true, false, ◌&&◌, ◌||◌, cond}
+use mathlib.Core.List.{List}
 use Prim.Native.Nat.{ℕ, ◌+◌, ◌-◌, ◌^◌, ◌≤◌, ◌<◌, ◌∣◌, zero-le}
 use native.Mathlib.Nat.{add-zero, zero-add, le_refl, le_trans, le_of_eq, dvd-zero}
 use native.Mathlib.Omega.{arith}
@@ -16,14 +17,15 @@ use lib.Ieee.Fits.{and_l, and_r}
 use lib.Ieee.Scale.{finite}
 use Rattle.double.specs.Worth.{mag, plus, minus, sign_bit}
 use Rattle.refusal.specs.Outcome.{Fixes}
+use Rattle.refusal.proofs.Laws.Outcome.{outcome_once}
 use Rattle.double.proofs.Laws.Digits.{dvd_lower, size_gt, rep_dvd}
 use Rattle.double.proofs.Laws.Units.{Real, Parts, mag_rep}
 use Rattle.double.proofs.Laws.Compare.{lt_is, le_is, eq_is}
 use Rattle.double.proofs.Laws.Zero.{plus_zero, zero_real, zero_mag}
 use Rattle.double.proofs.Laws.Sum.{neg_plus, neg_minus, neg_real}
-use Rattle.point.specs.Accepted.{accepted_within, accepted_of, AcceptedSays, reach, magnitude_of}
+use Rattle.point.specs.Accepted.{accepted_within, accepted_of, AcceptedSays, AllAcceptedSays, reach, magnitude_of, MagnitudeSays}
 use Rattle.point.specs.Parts.{within_of}
-use Rattle.point.specs.High.{high_reach, high_accepted, AcceptedHighSays}
+use Rattle.point.specs.High.{high_reach, high_accepted, AcceptedHighSays, AllAcceptedHighSays}
 
 -- ---- a magnitude lies above 0
 sides : (f : Format) (x : Float) → ((plus f x ≡ mag f x) × (minus f x ≡ 0)) ⊎ ((plus f x ≡ 0) × (minus f x ≡ mag f x))
@@ -199,3 +201,12 @@ accepted_fixed x a b p q = p ∙ sym q
 
 pub accepted_high_fixed : (x : Float) → Fixes (AcceptedHighSays x)
 accepted_high_fixed x a b p q = p ∙ sym q
+
+pub all_accepted_fixed : (xs : List Float) → Fixes (AllAcceptedSays xs)
+all_accepted_fixed xs a b p q = outcome_once (λ u. u) (λ u v e. e) a b (p ∙ sym q)
+
+pub all_accepted_high_fixed : (xs : List Float) → Fixes (AllAcceptedHighSays xs)
+all_accepted_high_fixed xs a b p q = outcome_once (λ u. u) (λ u v e. e) a b (p ∙ sym q)
+
+pub magnitude_fixed : (x : Float) → Fixes (MagnitudeSays x)
+magnitude_fixed x a b p q = p ∙ sym q

@@ -7,7 +7,7 @@ unfolding within_of
 returns-then-least-m c =
     rw c.magnitude-m.ensures (rw (rw c.magnitude-m.ensures at c.if-least-m.true))
 
-pub returns : goal.returns
+pub returns-else-least-m : goal.returns-else-least-m
 unfolding within_of
-returns c =
+returns-else-least-m c =
     rw c.magnitude-m.ensures (rw (rw c.magnitude-m.ensures at c.if-least-m.false))

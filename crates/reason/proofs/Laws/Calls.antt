@@ -2,19 +2,19 @@
 -- and its corners; inside or outside, the entries are the edges that count, in rising order, and their total, and later bytes stay; which calls are
 -- refused, with what number and place, and which are answered; 64 bytes are enough; no two results satisfy the promise. Assumes nothing.
 use mathlib.Core.Path.{◌≡◌, refl, sym, ap, ap₂, ◌∙◌, subst}
-use mathlib.Core.Bool.{Bool, true}
+use mathlib.Core.Bool.{true}
 use mathlib.Core.List.{List, [], ◌++◌, map, Memᴰ}
 use mathlib.Core.Logic.{◌⊎◌, ◌↔◌}
 use Prim.Native.Nat.{ℕ, ◌+◌, ◌*◌, ◌/◌, ◌≤◌, ◌<◌}
 use native.Mathlib.Omega.{arith}
-use lib.IntN.{ℤ}
 use lib.ListN.{length, take, drop, get_or, length-map}
 use lib.Seq.{take_at, drop-append_seam}
 use lib.Ieee.{Float}
-use Rattle.refusal.specs.Outcome.{Outcome, answers, refuses, no_room, Fixes}
+use Rattle.std.specs.Prelude.{Err, Ok, Result}
+use Rattle.refusal.specs.Outcome.{Outcome, answers, no_room, Fixes, kind_number}
 use Rattle.refusal.specs.declared.Refusal.{Refusal}
 use Rattle.refusal.proofs.Laws.Judged.{also_refused}
-use Rattle.refusal.proofs.Laws.Outcome.{refuses_once, never, no_refusal}
+use Rattle.refusal.proofs.Laws.Outcome.{outcome_refused, outcome_once, never, no_refusal}
 use Rattle.ground.specs.Edge.{Edge, edges_of, is_up, is_down}
 use Rattle.ground.specs.Zone.{Lies, outside, border, inside, place_of}
 use Rattle.ground.specs.Reason.{Turn, up, down, counts, Entry, entry, is_corner, edge_of, Reason, on_border, is_inside, is_outside, reason_at, reason_of, place_said as place_of_reason, entries_of}
@@ -25,25 +25,24 @@ use Rattle.point.specs.Spot.{spot_of}
 use Rattle.geometry.specs.Zone.{most, corners_of, corner_at, next_of, edge_at, place_in, place_said, zone_said, ZoneSays}
 use Rattle.geometry.specs.Reasons.{total_in, FirstOn, OffBorder, ZoneRefusedAs, odd as as_odd, few as as_few, many as as_many, unaccepted as as_unaccepted}
 use Rattle.geometry.specs.declared.answer.Place.TheVariants.{Outside as PlaceOutside, Border as PlaceBorder, Inside as PlaceInside}
-use Rattle.geometry.specs.declared.answer.Zone.{Zone}
-use Rattle.geometry.specs.declared.answer.Zone.TheVariants.{At}
+use Rattle.geometry.specs.declared.answer.Place.{Place}
 use Rattle.geometry.proofs.Laws.Edges.{edges_length}
 use Rattle.geometry.proofs.Laws.Zone.{zone_fixed}
 use Rattle.geometry.proofs.Laws.Answered.{zoned_answers}
 use Rattle.geometry.proofs.Laws.Calls.{found_refused, zone_border}
-use Rattle.reason.specs.Why.{reason_in, code, why_of, why_said, numbered, number_said, lent_after, WhySays}
+use Rattle.reason.specs.Why.{reason_in, code, why_of, why_value, why_said, numbered, number_said, lent_after, WhySays}
 use Rattle.reason.specs.Reasons.{many_in, WhyRefusedAs, as_zone, short, Tells, Stands, total_coded}
 use Rattle.reason.specs.Parts.{IsZone}
 use Rattle.reason.specs.declared.answer.Met.{Met}
 use Rattle.reason.specs.declared.answer.Counted.{Counted}
+use Rattle.reason.specs.declared.answer.Why.TheVariants.{Border, Inside, Outside}
 use Rattle.reason.specs.declared.answer.Why.{Why}
-use Rattle.reason.specs.declared.answer.Why.TheVariants.{Border, Inside, Outside, Refused}
 use Rattle.reason.proofs.Laws.Entries.{code_up, code_down, stands_listed, listed_stands, bytes_rise, total_coded_lem}
 use Rattle.reason.proofs.Laws.Why.{edge_number, edge_of_lem, few_entries}
 use Rattle.reason.proofs.Laws.Told.{list_in, many_listed, answer_told, Answered, Told, why_told, refused_found_why, found_refused_why}
 
 -- ---- the place is the zone test's
-module _ (xs : List Float) (p : Point) (lent left : List ℕ) (r : Why) (says : WhySays xs p lent r left) (z : Zone) (zone : ZoneSays xs p z) where
+module _ (xs : List Float) (p : Point) (lent left : List ℕ) (r : Result Why Refusal) (says : WhySays xs p lent r left) (z : Result Place Refusal) (zone : ZoneSays xs p z) where
   numbered_place : (q : Reason (List Entry)) → place_of_reason (numbered q) ≡ place_of_reason q
   numbered_place (on_border k corner) = refl
   numbered_place (is_inside total l) = refl
@@ -56,23 +55,23 @@ module _ (xs : List Float) (p : Point) (lent left : List ℕ) (r : Why) (says : 
       zone ∙ known.lies
       ∙ ap answers (sym (reason_place (edges_of (corners_of xs)) (spot_of p)) ∙ sym (numbered_place (reason_in xs p)) ∙ ap place_of_reason (sym is))
 
-  pub why_border_zone : (m : Met) → r ≡ Border m → z ≡ At (PlaceBorder m.edge)
+  pub why_border_zone : (m : Met) → r ≡ Ok (Border m) → z ≡ Ok (PlaceBorder m.edge)
   unfolding why_said zone_said place_said
   why_border_zone m e =
-      zone_fixed xs p z (At (PlaceBorder m.edge)) zone (sym (zone_at_lem (on_border m.edge m.corner) (ap why_said e)) ∙ zone)
+      zone_fixed xs p z (Ok (PlaceBorder m.edge)) zone (sym (zone_at_lem (on_border m.edge m.corner) (ap why_said e)) ∙ zone)
 
-  pub why_inside_zone : (c : Counted) → r ≡ Inside c → z ≡ At PlaceInside
+  pub why_inside_zone : (c : Counted) → r ≡ Ok (Inside c) → z ≡ Ok PlaceInside
   unfolding why_said zone_said place_said
   why_inside_zone c e =
-      zone_fixed xs p z (At PlaceInside) zone (sym (zone_at_lem (is_inside c.total c.entries) (ap why_said e)) ∙ zone)
+      zone_fixed xs p z (Ok PlaceInside) zone (sym (zone_at_lem (is_inside c.total c.entries) (ap why_said e)) ∙ zone)
 
-  pub why_outside_zone : (c : Counted) → r ≡ Outside c → z ≡ At PlaceOutside
+  pub why_outside_zone : (c : Counted) → r ≡ Ok (Outside c) → z ≡ Ok PlaceOutside
   unfolding why_said zone_said place_said
   why_outside_zone c e =
-      zone_fixed xs p z (At PlaceOutside) zone (sym (zone_at_lem (is_outside c.total c.entries) (ap why_said e)) ∙ zone)
+      zone_fixed xs p z (Ok PlaceOutside) zone (sym (zone_at_lem (is_outside c.total c.entries) (ap why_said e)) ∙ zone)
 
 -- ---- on the border: the first edge that has the point, and whether the point is equal in value to one of its ends; no byte is written
-module _ (xs : List Float) (p : Point) (lent left : List ℕ) (m : Met) (says : WhySays xs p lent (Border m) left) where
+module _ (xs : List Float) (p : Point) (lent left : List ℕ) (m : Met) (says : WhySays xs p lent (Ok (Border m)) left) where
   border_at : (l : Lies) → ◌≡◌ {A = Reason ℕ} (on_border m.edge m.corner) (numbered (reason_at l (edges_of (corners_of xs)) (spot_of p)))
       → (l ≡ border m.edge) × (m.corner ≡ is_corner (edge_of (edges_of (corners_of xs)) m.edge (spot_of p)) (spot_of p))
       × (entries_of (reason_at l (edges_of (corners_of xs)) (spot_of p)) ≡ [])
@@ -87,7 +86,7 @@ module _ (xs : List Float) (p : Point) (lent left : List ℕ) (m : Met) (says : 
       × (m.corner ≡ is_corner (edge_at xs m.edge) (spot_of p)) × (left ≡ lent)
   unfolding why_said reason_in reason_of place_in
   border_told =
-      let (known, is, stands) = answer_told xs p lent left (Border m) (on_border m.edge m.corner) says refl in
+      let (known, is, stands) = answer_told xs p lent left (Ok (Border m)) (on_border m.edge m.corner) says refl in
       let (place, corner, none) = border_at (place_of (edges_of (corners_of xs)) (spot_of p)) is in
       let within = edge_number xs p known.zoned known.accepted m.edge (sym place) in (
         known,
@@ -112,7 +111,7 @@ module _ (xs : List Float) (p : Point) (lent left : List ℕ) (m : Met) (says : 
   why_border_leaves = let (_, _, _, same) = border_told in same
 
 -- ---- inside or outside: the edges that count
-module _ (xs : List Float) (p : Point) (lent left : List ℕ) (r : Why) (c : Counted) (says : WhySays xs p lent r left) (t : Tells c r) where
+module _ (xs : List Float) (p : Point) (lent left : List ℕ) (r : Result Why Refusal) (c : Counted) (says : WhySays xs p lent r left) (t : Tells c r) where
   told : Told xs p lent c left
   told = why_told xs p lent left r c says t
 
@@ -180,41 +179,35 @@ module _ (xs : List Float) (p : Point) (lent left : List ℕ) (r : Why) (c : Cou
   why_room = told.fits
 
 -- ---- which calls are refused: as the zone is; then with 9 where the room is shorter than the edges that count
-pub why_refused : (xs : List Float) (p : Point) (lent left : List ℕ) (r : Why) → WhySays xs p lent r left
-    → (f : Refusal) → (r ≡ Refused f) ↔ WhyRefusedAs xs p (length lent) f.number f.place
+pub why_refused : (xs : List Float) (p : Point) (lent left : List ℕ) (r : Result Why Refusal) → WhySays xs p lent r left
+    → (f : Refusal) → (r ≡ Err f) ↔ WhyRefusedAs xs p (length lent) (kind_number f.kind) f.place
 unfolding why_said
 why_refused xs p lent left r says f = (
-  λ e. refused_found_why xs p (length lent) f.number f.place
+  λ e. refused_found_why xs p (length lent) (kind_number f.kind) f.place
       (also_refused (why_of xs p (length lent)) numbered (sym says.answer ∙ ap why_said e)),
-  λ w. only r (says.answer ∙ ap number_said (found_refused_why xs p (length lent) f.number f.place w)),
+  λ w. outcome_refused why_value r f (says.answer ∙ ap number_said (found_refused_why xs p (length lent) (kind_number f.kind) f.place w)),
 )
-  where
-    only : (r : Why) → why_said r ≡ refuses f.number f.place → r ≡ Refused f
-    only (Border m) e = no_refusal (sym e)
-    only (Inside c) e = no_refusal (sym e)
-    only (Outside c) e = no_refusal (sym e)
-    only (Refused g) e = ap Refused (refuses_once g f e)
 
 -- a good zone answers for every accepted point, where off the border there is room for the edges that count
 pub why_answers : (xs : List Float) (p : Point) (lent left : List ℕ) (f : Refusal) → IsZone xs → Accepted p
-    → (OffBorder xs p → many_in xs p ≤ length lent) → WhySays xs p lent (Refused f) left → ⊥
-why_answers xs p lent left f z a fits says = go f.number f.place ((why_refused xs p lent left (Refused f) says f).0 refl)
+    → (OffBorder xs p → many_in xs p ≤ length lent) → WhySays xs p lent (Err f) left → ⊥
+why_answers xs p lent left f z a fits says = go (kind_number f.kind) f.place ((why_refused xs p lent left (Err f) says f).0 refl)
   where
     go : (n k : ℕ) → WhyRefusedAs xs p (length lent) n k → ⊥
     go n k (as_zone m j w) = no_refusal (sym (found_refused xs p m j w) ∙ zoned_answers xs (length xs / 2) p z a)
     go n k (short _ _ off h) = omega (arith, fits off)
 
 -- a refused call leaves every lent byte
-pub why_refused_leaves : (xs : List Float) (p : Point) (lent left : List ℕ) (f : Refusal) → WhySays xs p lent (Refused f) left → left ≡ lent
+pub why_refused_leaves : (xs : List Float) (p : Point) (lent left : List ℕ) (f : Refusal) → WhySays xs p lent (Err f) left → left ≡ lent
 unfolding why_said
 why_refused_leaves xs p lent left f says =
     let whole = also_refused (why_of xs p (length lent)) numbered (sym says.answer) in
     says.room ∙ ap (λ (o : Outcome (Reason (List Entry))). lent_after o lent) whole
 
 -- 64 bytes are enough: with so many lent only what refuses the zone is refused, and so never 9
-pub why_enough : (xs : List Float) (p : Point) (lent left : List ℕ) (f : Refusal) → most ≤ length lent → WhySays xs p lent (Refused f) left
-    → ZoneRefusedAs xs p f.number f.place × (f.number ≡ no_room → ⊥)
-why_enough xs p lent left f enough says = let w = as_zone_told f.number f.place ((why_refused xs p lent left (Refused f) says f).0 refl) in (w, not_nine _ _ w)
+pub why_enough : (xs : List Float) (p : Point) (lent left : List ℕ) (f : Refusal) → most ≤ length lent → WhySays xs p lent (Err f) left
+    → ZoneRefusedAs xs p (kind_number f.kind) f.place × (kind_number f.kind ≡ no_room → ⊥)
+why_enough xs p lent left f enough says = let w = as_zone_told (kind_number f.kind) f.place ((why_refused xs p lent left (Err f) says f).0 refl) in (w, not_nine _ _ w)
   where
     as_zone_told : (n k : ℕ) → WhyRefusedAs xs p (length lent) n k → ZoneRefusedAs xs p n k
     as_zone_told n k (as_zone m j w) = w
@@ -228,31 +221,22 @@ why_enough xs p lent left f enough says = let w = as_zone_told f.number f.place 
     not_nine n k (as_unaccepted h i j place first) e = omega arith
 
 -- ---- no two results satisfy the promise
-counted_once : (c d : Counted) → c.total ≡ d.total → c.entries ≡ d.entries → c ≡ d
-counted_once c d i j = let of : ℤ → ℕ → Counted = λ t n. record { total = t; entries = n } in ap₂ of i j
+of_value : Reason ℕ → Why
+of_value (on_border k corner) = Border (record { edge = k; corner = corner })
+of_value (is_inside total n) = Inside (record { total = total; entries = n })
+of_value (is_outside total n) = Outside (record { total = total; entries = n })
 
-met_once : (m n : Met) → m.edge ≡ n.edge → m.corner ≡ n.corner → m ≡ n
-met_once m n i j = let of : ℕ → Bool → Met = λ k t. record { edge = k; corner = t } in ap₂ of i j
+value_back : (w : Why) → of_value (why_value w) ≡ w
+unfolding of_value
+value_back (Border m) = refl
+value_back (Inside c) = refl
+value_back (Outside c) = refl
 
-reason_once : (a b : Why) → why_said a ≡ why_said b → a ≡ b
+value_once : (v w : Why) → why_value v ≡ why_value w → v ≡ w
+value_once v w e = sym (value_back v) ∙ ap of_value e ∙ value_back w
+
+pub why_fixed : (xs : List Float) (p : Point) (lent : List ℕ) → Fixes (λ (w : Result Why Refusal × List ℕ). WhySays xs p lent w.0 w.1)
 unfolding why_said
-reason_once (Border m) (Border n) e = ap Border (met_once m n (cc) (cc))
-reason_once (Border m) (Inside d) e = never (cc)
-reason_once (Border m) (Outside d) e = never (cc)
-reason_once (Border m) (Refused r) e = no_refusal (sym e)
-reason_once (Inside c) (Border n) e = never (cc)
-reason_once (Inside c) (Inside d) e = ap Inside (counted_once c d (cc) (cc))
-reason_once (Inside c) (Outside d) e = never (cc)
-reason_once (Inside c) (Refused r) e = no_refusal (sym e)
-reason_once (Outside c) (Border n) e = never (cc)
-reason_once (Outside c) (Inside d) e = never (cc)
-reason_once (Outside c) (Outside d) e = ap Outside (counted_once c d (cc) (cc))
-reason_once (Outside c) (Refused r) e = no_refusal (sym e)
-reason_once (Refused q) (Border n) e = no_refusal e
-reason_once (Refused q) (Inside d) e = no_refusal e
-reason_once (Refused q) (Outside d) e = no_refusal e
-reason_once (Refused q) (Refused r) e = ap Refused (refuses_once q r e)
-
-pub why_fixed : (xs : List Float) (p : Point) (lent : List ℕ) → Fixes (λ (w : Why × List ℕ). WhySays xs p lent w.0 w.1)
 why_fixed xs p lent a b h k =
-    ap₂ (λ (r : Why) (left : List ℕ). (r, left)) (reason_once a.0 b.0 (h.answer ∙ sym k.answer)) (h.room ∙ sym k.room)
+    ap₂ (λ (r : Result Why Refusal) (left : List ℕ). (r, left))
+    (outcome_once why_value value_once a.0 b.0 (h.answer ∙ sym k.answer)) (h.room ∙ sym k.room)

@@ -9,8 +9,10 @@ use lib.Dec.{leb}
 use lib.ListN.{length, drop, length-map}
 use lib.Ieee.{Float}
 use borrow.Author.Tests.{leb-true}
+use Rattle.std.specs.Prelude.{Result}
 use Rattle.whole.proofs.Laws.Order.{lt_or_le}
 use Rattle.refusal.specs.Outcome.{Outcome, answers, refuses, no_room}
+use Rattle.refusal.specs.declared.Refusal.{Refusal}
 use Rattle.refusal.proofs.Laws.Judged.{also_answered, require_answered}
 use Rattle.refusal.proofs.Laws.Outcome.{never, no_refusal}
 use Rattle.ground.specs.Edge.{Edge, edges_of}
@@ -80,7 +82,7 @@ module _ (xs : List Float) (p : Point) (lent left : List ℕ) where
   row = edges_of (corners_of xs)
 
   -- by the place that the zone's rule gives
-  told_at : (l : Lies) (c : Counted) (r : Why) → Tells c r → why_said r ≡ answers (numbered (reason_at l row (spot_of p)))
+  told_at : (l : Lies) (c : Counted) (r : Result Why Refusal) → Tells c r → why_said r ≡ answers (numbered (reason_at l row (spot_of p)))
       → (c.total ≡ total_in xs p) × (c.entries ≡ length (list_in xs p)) × (entries_of (reason_at l row (spot_of p)) ≡ list_in xs p)
   unfolding why_said
   told_at inside c r of_inside e = (cc, cc, refl)
@@ -91,7 +93,7 @@ module _ (xs : List Float) (p : Point) (lent left : List ℕ) where
   told_at (border k) c r of_outside e = never (cc)
 
   -- a call that answers: the zone does, the reason is the rule's, and its entries stand
-  pub answer_told : (r : Why) (n : Reason ℕ) → WhySays xs p lent r left → why_said r ≡ answers n
+  pub answer_told : (r : Result Why Refusal) (n : Reason ℕ) → WhySays xs p lent r left → why_said r ≡ answers n
       → Answered xs p (length lent) × (n ≡ numbered (reason_in xs p))
       × (left ≡ map code (entries_of (reason_in xs p)) ++ drop (length (map code (entries_of (reason_in xs p)))) lent)
   answer_told r n says e =
@@ -100,12 +102,12 @@ module _ (xs : List Float) (p : Point) (lent left : List ℕ) where
       let same : answers n ≡ answers (numbered (reason_in xs p)) = sym e ∙ says.answer ∙ ap number_said known.whole in
       (known, cc, says.room ∙ ap (λ (o : Outcome (Reason (List Entry))). lent_after o lent) known.whole)
 
-  tells_said : (c : Counted) (r : Why) → Tells c r → (n : Reason ℕ) × (why_said r ≡ answers n)
+  tells_said : (c : Counted) (r : Result Why Refusal) → Tells c r → (n : Reason ℕ) × (why_said r ≡ answers n)
   unfolding why_said
   tells_said c r of_inside = (is_inside c.total c.entries, refl)
   tells_said c r of_outside = (is_outside c.total c.entries, refl)
 
-  pub why_told : (r : Why) (c : Counted) → WhySays xs p lent r left → Tells c r → Told xs p lent c left
+  pub why_told : (r : Result Why Refusal) (c : Counted) → WhySays xs p lent r left → Tells c r → Told xs p lent c left
   unfolding reason_in reason_of
   why_told r c says t =
       let (n, said) = tells_said c r t in

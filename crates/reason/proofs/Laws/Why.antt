@@ -7,13 +7,17 @@ use Prim.Native.Nat.{ℕ, suc, ◌+◌, ◌*◌, ◌/◌, ◌≤◌, ◌<◌}
 use native.Mathlib.Omega.{arith}
 use lib.Dec.{leb}
 use lib.IntN.{ℤ, pos, negsuc, ◌-ℤ◌}
-use lib.ListN.{length, take, drop, get_or}
+use lib.ListN.{length, length-map, take, drop, get_or}
 use lib.Seq.{drop-cons}
 use lib.Ieee.{Float}
 use borrow.Author.Tests.{le-leb, lt-leb}
-use Rattle.refusal.specs.Outcome.{Outcome, answers, refuses, no_room}
-use Rattle.refusal.specs.declared.Refusal.{Refusal}
+use mir.Syntax.{w64}
+use mir.ValLaws.{to_z-of_z}
+use Rattle.std.specs.Prelude.{Result, Ok, Err}
+use Rattle.refusal.specs.Outcome.{Outcome, answers, refuses, no_room, kind_number}
 use Rattle.refusal.specs.Judged.{require, also}
+use Rattle.refusal.specs.declared.Kind.TheVariants.{NoRoom}
+use Rattle.refusal.specs.declared.Refusal.{Refusal}
 use Rattle.refusal.proofs.Laws.Judged.{require_holds, require_fails}
 use Rattle.ground.specs.Edge.{Edge, edge, edges_of}
 use Rattle.ground.specs.Zone.{Lies, outside, border, inside, tally_of, total_of}
@@ -25,21 +29,18 @@ use Rattle.point.specs.Spot.{spot_of}
 use Rattle.word64.specs.Word.{SignedDifferenceSays}
 use Rattle.word64.proofs.Laws.Signed.{again}
 use Rattle.word64.proofs.Laws.Difference.{difference_of_last_words}
-use mir.Syntax.{w64}
-use mir.ValLaws.{to_z-of_z}
 use Rattle.whole.proofs.Laws.Parts.{up, dn, ≤_parts, <_parts}
 use Rattle.geometry.specs.Zone.{most, corners_of, edge_at, place_in, place_said, zone_said, zone_of}
 use Rattle.geometry.specs.declared.answer.Place.TheVariants.{Border as PlaceBorder}
-use Rattle.geometry.specs.declared.answer.Zone.TheVariants.{Refused as ZoneRefused}
 use Rattle.geometry.proofs.Laws.Answered.{accepted_pass, zone_answered, zoned_answers}
 use Rattle.geometry.proofs.Laws.Calls.{zone_border}
 use Rattle.geometry.proofs.Laws.Edges.{edges_drop, edges_length}
 use Rattle.reason.specs.Why.{reason_in, code, needed_in, why_of, why_said, numbered, number_said, lent_after, WhySays}
-use Rattle.reason.specs.Parts.{IsZone, ListedSays}
-use Rattle.reason.specs.declared.listing.Counts.{Counts}
+use Rattle.reason.specs.Parts.{IsZone, ListedSays, codes_in, CountedSays}
+use Rattle.reason.specs.declared.listing.Listed.{Listed}
 use Rattle.reason.specs.declared.answer.Counted.{Counted}
 use Rattle.reason.specs.declared.answer.Why.{Why}
-use Rattle.reason.specs.declared.answer.Why.TheVariants.{Border, Inside, Outside, Refused}
+use Rattle.reason.specs.declared.answer.Why.TheVariants.{Border, Inside, Outside}
 
 -- ---- a total as it is read again: it fits
 pub total_again : (a b : ℕ) (d : ℤ) → SignedDifferenceSays a b d → again d ≡ d
@@ -51,6 +52,10 @@ total_again a b (negsuc n) says = to_z-of_z w64 (negsuc n) (record { sfits = ome
 abbrev pub why_by : Bool → Counted → Why
 why_by true = Inside
 why_by false = Outside
+
+abbrev pub why_from : Bool → Result Counted Refusal → Result Why Refusal
+why_from b (Ok c) = Ok (why_by b c)
+why_from b (Err r) = Err r
 
 -- ---- a zone that answers is not refused, and its point is accepted
 pub answered_zoned : (xs : List Float) (p : Point) (l : Lies) → zone_of xs p ≡ answers l → IsZone xs × Accepted p × (l ≡ place_in xs p)
@@ -96,7 +101,7 @@ module _ (xs : List Float) (p : Point) where
         ∙ require_fails no_room 0 (λ (_ : Unit {0}). answers (reason_in xs p)) (lt-leb (needed_in xs p) room h)
 
   -- an answer and a refusal keep the promise
-  tells_answer : (lent : List ℕ) (r : Why) (left : List ℕ) (reason : Reason (List Entry)) → why_of xs p (length lent) ≡ answers reason
+  tells_answer : (lent : List ℕ) (r : Result Why Refusal) (left : List ℕ) (reason : Reason (List Entry)) → why_of xs p (length lent) ≡ answers reason
       → why_said r ≡ answers (numbered reason)
       → left ≡ map code (entries_of reason) ++ drop (length (map code (entries_of reason))) lent → WhySays xs p lent r left
   tells_answer lent r left reason e said stands = record {
@@ -104,16 +109,16 @@ module _ (xs : List Float) (p : Point) where
     room = stands ∙ sym (ap (λ (o : Outcome (Reason (List Entry))). lent_after o lent) e);
   }
 
-  tells_refused : (lent : List ℕ) (r : Refusal) → why_of xs p (length lent) ≡ refuses r.number r.place → WhySays xs p lent (Refused r) lent
+  tells_refused : (lent : List ℕ) (r : Refusal) → why_of xs p (length lent) ≡ refuses (kind_number r.kind) r.place → WhySays xs p lent (Err r) lent
   unfolding why_said
   tells_refused lent r e = record {
     answer = sym (ap number_said e);
     room = sym (ap (λ (o : Outcome (Reason (List Entry))). lent_after o lent) e);
   }
 
-  pub zone_refused_says : (lent : List ℕ) (r : Refusal) → zone_said (ZoneRefused r) ≡ zone_of xs p → WhySays xs p lent (Refused r) lent
+  pub zone_refused_says : (lent : List ℕ) (r : Refusal) → zone_said (Err r) ≡ zone_of xs p → WhySays xs p lent (Err r) lent
   unfolding zone_said
-  zone_refused_says lent r e = tells_refused lent r (why_refused_zone (length lent) r.number r.place (sym e))
+  zone_refused_says lent r e = tells_refused lent r (why_refused_zone (length lent) (kind_number r.kind) r.place (sym e))
 
   -- ---- a zone and a point that are not refused
   module _ (z : IsZone xs) (a : Accepted p) where
@@ -133,7 +138,7 @@ module _ (xs : List Float) (p : Point) where
         ap (λ (l : List Edge). get_or l 0 none) (sym (drop-cons row k none within) ∙ edges_drop xs (length xs / 2) k z.corners h)
 
     pub met_says : (lent : List ℕ) (k : ℕ) → border k ≡ place_in xs p
-        → WhySays xs p lent (Border (record { edge = k; corner = is_corner (edge_at xs k) (spot_of p) })) lent
+        → WhySays xs p lent (Ok (Border (record { edge = k; corner = is_corner (edge_at xs k) (spot_of p) }))) lent
     unfolding why_said reason_in reason_of place_in
     met_says lent k e =
         let reason : reason_in xs p ≡ on_border k (is_corner (edge_at xs k) (spot_of p)) =
@@ -159,14 +164,14 @@ module _ (xs : List Float) (p : Point) where
         omega (arith, listed_few 0 (edges_of (corners_of xs)) (spot_of p), edges_length xs (length xs / 2) z.corners, z.few)
 
     -- by the counts that were found with them
-    module _ (c : Counts) (held : List ℕ) (l : ListedSays xs p c held) where
-      many : length list ≡ c.ups + c.downs
+    module _ (c : Listed) (l : ListedSays xs p c) where
+      pub many : length (codes_in xs p) ≡ c.ups + c.downs
       many =
-          listed_many 0 (edges_of (corners_of xs)) (spot_of p)
-          ∙ sym (ap₂ (λ (m n : ℕ). m + n) (ap (λ (t : Counts). t.ups) l.counts) (ap (λ (t : Counts). t.downs) l.counts))
+          length-map list code ∙ listed_many 0 (edges_of (corners_of xs)) (spot_of p)
+          ∙ sym (ap₂ (λ (m n : ℕ). m + n) l.ups l.downs)
 
       pub counted_few : c.ups + c.downs ≤ most
-      counted_few = omega (arith, many, few_entries)
+      counted_few = omega (arith, many, length-map list code, few_entries)
 
       -- the total of the counts
       total_is : (d : ℤ) → SignedDifferenceSays c.ups c.downs d → d ≡ total
@@ -174,7 +179,18 @@ module _ (xs : List Float) (p : Point) where
       total_is d says =
           difference_of_last_words c.ups c.downs c.ups c.downs d
           (omega (arith, counted_few)) (omega (arith, counted_few)) (omega (arith, counted_few)) (omega (arith, counted_few)) says
-          ∙ ap (λ (t : Counts). pos t.ups -ℤ pos t.downs) l.counts
+          ∙ ap₂ (λ (u d : ℕ). pos u -ℤ pos d) l.ups l.downs
+
+      pub counted_says : (lent : List ℕ) (d : ℤ) → SignedDifferenceSays c.ups c.downs d → (entries left : List ℕ)
+          → entries ≡ take (c.ups + c.downs) c.entries → length entries ≤ length lent → left ≡ entries ++ drop (length entries) lent
+          → CountedSays xs p lent (Ok (record { total = again d; entries = length entries })) left
+      counted_says lent d says entries left are fits stands =
+          let same : entries ≡ codes_in xs p = are ∙ l.stand in
+          let found : ℤ → ℕ → Counted = λ t n. record { total = t; entries = n } in (
+            ap₂ found (total_again c.ups c.downs d says ∙ total_is d says) (ap length same),
+            omega (arith, ap length same),
+            rw (← same) stands,
+          )
 
     -- inside or outside
     module _ (b : Bool) (e : cond b inside outside ≡ place_in xs p) where
@@ -193,25 +209,22 @@ module _ (xs : List Float) (p : Point) where
           go true = refl
           go false = refl
 
-      module _ (c : Counts) (held : List ℕ) (l : ListedSays xs p c held) where
-        pub counted_short : (lent : List ℕ) → length lent < c.ups + c.downs → WhySays xs p lent (Refused (record { number = 9; place = 0 })) lent
-        counted_short lent h =
-            tells_refused lent (record { number = 9; place = 0 })
-            (why_short (length lent) (place_in xs p) answered (omega (arith, many c held l, ap length entries_by)))
+      needed : length (codes_in xs p) ≡ needed_in xs p
+      needed = length-map list code ∙ sym (ap length entries_by)
 
-        said_by : (t : Bool) (d : ℤ) → d ≡ total
-            → why_said (why_by t (record { total = d; entries = c.ups + c.downs })) ≡ answers (numbered (reason_by t total list))
-        unfolding why_said
-        said_by true d e = ap₂ (λ (t : ℤ) (n : ℕ). answers (is_inside t n)) e (sym (many c held l))
-        said_by false d e = ap₂ (λ (t : ℤ) (n : ℕ). answers (is_outside t n)) e (sym (many c held l))
+      said_by : (t : Bool)
+          → why_said (Ok (why_by t (record { total = total; entries = length (codes_in xs p) }))) ≡ answers (numbered (reason_by t total list))
+      unfolding why_said
+      said_by true = ap (λ (n : ℕ). answers (is_inside total n)) (length-map list code)
+      said_by false = ap (λ (n : ℕ). answers (is_outside total n)) (length-map list code)
 
-        pub counted_says : (lent : List ℕ) (d : ℤ) → SignedDifferenceSays c.ups c.downs d → c.ups + c.downs ≤ length lent → (left : List ℕ)
-            → left ≡ take (c.ups + c.downs) held ++ drop (length (take (c.ups + c.downs) held)) lent → (t : Bool) → b ≡ t
-            → WhySays xs p lent (why_by t (record { total = again d; entries = c.ups + c.downs })) left
-        counted_says lent d says fits left stands t same =
-            tells_answer lent _ left (reason_in xs p)
-            (why_fits (length lent) (place_in xs p) answered (omega (arith, many c held l, ap length entries_by)))
-            (said_by t (again d) (total_again c.ups c.downs d says ∙ total_is c held l d says)
-            ∙ ap (λ (s : Bool). answers (numbered (reason_by s total list))) (sym same)
-            ∙ ap (λ (r : Reason (List Entry)). answers (numbered r)) (sym reason_by_lem))
-            (stands ∙ ap (λ (u : List ℕ). u ++ drop (length u) lent) (l.stand ∙ ap (map code) (sym entries_by)))
+      pub placed_says : (lent : List ℕ) (r : Result Counted Refusal) (left : List ℕ)
+          → CountedSays xs p lent r left → WhySays xs p lent (why_from b r) left
+      placed_says lent (Ok c) left (is, fits, stands) =
+          tells_answer lent _ left (reason_in xs p)
+          (why_fits (length lent) (place_in xs p) answered (omega (arith, needed)))
+          (ap (λ (x : Counted). why_said (Ok (why_by b x))) is ∙ said_by b ∙ ap (λ (r : Reason (List Entry)). answers (numbered r)) (sym reason_by_lem))
+          (stands ∙ ap (λ (x : List Entry). map code x ++ drop (length (map code x)) lent) (sym entries_by))
+      placed_says lent (Err r) left (is, short, stay) =
+          rw (stay, is)
+          (tells_refused lent (record { kind = NoRoom; place = 0 }) (why_short (length lent) (place_in xs p) answered (omega (arith, needed))))

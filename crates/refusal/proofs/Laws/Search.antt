@@ -1,11 +1,12 @@
 -- The search for the first entry that fails a test. In order: its turns, over a list that is gone through by index; an answer says that
 -- every entry passes, and a refusal which entry is the first that fails, both ways; any other answer is given or refused where one is.
 -- Assumes nothing.
-use mathlib.Core.Path.{◌≡◌, refl, sym, ap, ap₂, ◌∙◌}
+use mathlib.Core.Path.{◌≡◌, refl, sym, ap, ap₂, ◌∙◌, subst}
+use mathlib.Core.Logic.{◌↔◌}
 use mathlib.Core.Bool.{Bool, true, false, cond}
 use mathlib.Core.List.{List, [], ◌∷◌}
 use Prim.Native.Nat.{ℕ, zero, suc, ◌+◌, ◌≤◌, ◌<◌}
-use native.Mathlib.Nat.{add-zero}
+use native.Mathlib.Nat.{add-zero, zero-add}
 use native.Mathlib.Numerals.{add-one}
 use native.Mathlib.Omega.{arith}
 use lib.ListN.{length, drop, get_or, drop_of_length-le}
@@ -99,6 +100,29 @@ module _ {E : Type 0} (test : E → Bool) (number : ℕ) where
           cc,
           (0, omega (arith, place), record { inside = omega arith; fails = t; before = λ k l. let z : ⊥ = omega arith in absurd z }),
         )
+
+-- refused exactly at the first entry that fails
+pub passing_iff : {E A : Type 0} (test : E → Bool) (number : ℕ) (none : E) (xs : List E) (answer : A) (n p : ℕ)
+    → (passing_from test number 0 xs answer ≡ refuses n p) ↔ ((n ≡ number) × IsFirst test none xs p)
+passing_iff {E} {A} test number none xs answer n p = (found, refused)
+  where
+    found : passing_from test number 0 xs answer ≡ refuses n p → (n ≡ number) × IsFirst test none xs p
+    found e =
+        let (same, (j, at, first)) = passing_refused test number none answer 0 xs n p e in
+        (same, subst (IsFirst test none xs) (sym (at ∙ zero-add j)) first)
+
+    refused : (n ≡ number) × IsFirst test none xs p → passing_from test number 0 xs answer ≡ refuses n p
+    refused (same, first) =
+        passing_first test number none answer 0 xs p first ∙ ap₂ (λ (m k : ℕ). refuses m k) (sym same) (zero-add p)
+
+-- ---- two tests that agree on every entry
+pub passing_alike : {E A : Type 0} (one other : E → Bool) (number : ℕ) (none : E) (answer : A) (i : ℕ) (xs : List E)
+    → ((k : ℕ) → k < length xs → one (get_or xs k none) ≡ other (get_or xs k none))
+    → passing_from one number i xs answer ≡ passing_from other number i xs answer
+unfolding passing_from
+passing_alike one other number none answer i [] alike = refl
+passing_alike one other number none answer i (x ∷ xs) alike =
+    rw (alike 0 (omega arith), passing_alike one other number none answer (i + 1) xs (λ k l. alike (suc k) (omega arith)))
 
 -- ---- another answer is given, or refused, where one is
 module _ {E A B : Type 0} (test : E → Bool) (number i : ℕ) (none : E) (xs : List E) (one : A) (other : B) where

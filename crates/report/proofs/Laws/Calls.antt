@@ -7,46 +7,47 @@ use mathlib.Core.List.{List, ◌++◌}
 use native.Mathlib.Omega.{arith}
 use lib.ListN.{length, take, drop}
 use lib.Seq.{take-append_seam, drop-append_seam}
-use Rattle.refusal.specs.Outcome.{Outcome, answers, refuses}
+use Rattle.std.specs.Prelude.{Err, Ok, Result}
 use Rattle.refusal.specs.declared.Refusal.{Refusal}
+use Rattle.refusal.specs.Outcome.{Outcome, answers, refuses, kind_number}
+use Rattle.refusal.proofs.Laws.Outcome.{never}
 use Rattle.refusal.proofs.Laws.Judged.{also_answered}
+use Rattle.report.specs.declared.answer.ReportRefusal.TheVariants.{Zone as RefusedZone}
+use Rattle.report.specs.declared.answer.ReportRefusal.{ReportRefusal}
 use Rattle.report.specs.Zone.{zone_file_of, JudgeSays}
 use Rattle.report.specs.Report.{releases_of, Told, releases, refused_zone, refused_releases, of_releases, report_of}
 use Rattle.report.specs.Report.{number_said, lent_after, ReportSays}
-use Rattle.report.specs.declared.answer.Judged.TheVariants.{Corners, Refused}
-use Rattle.report.specs.declared.answer.Report.{Report}
-use Rattle.report.specs.declared.answer.Report.TheVariants.{Releases, RefusedZone}
 use Rattle.report.proofs.Laws.Zone.{points_refused}
 use Rattle.report.proofs.Laws.Report.{report_zone_first, report_judged, Reported, report_codes, report_codes_room, said_once}
 
 -- ---- the two calls agree
 -- a zone that `judge` refuses is refused so by `report`, with whatever releases; one that it does not refuse never is
-pub judge_refused_report : (zone bytes lent : List ℕ) (r : Refusal) → JudgeSays zone (Refused r)
-    → (q : Report) (left : List ℕ) → ReportSays zone bytes lent q left → (q ≡ RefusedZone r) × (left ≡ lent)
+pub judge_refused_report : (zone bytes lent : List ℕ) (r : Refusal) → JudgeSays zone (Err r)
+    → (q : Result ℕ ReportRefusal) (left : List ℕ) → ReportSays zone bytes lent q left → (q ≡ Err (RefusedZone r)) × (left ≡ lent)
 judge_refused_report zone bytes lent r h q left s =
-    let z = points_refused (zone_file_of zone) r.number r.place h in
-    let e = report_zone_first zone bytes (length lent) r.number r.place z in (
-      said_once q (RefusedZone r) (s.answer ∙ ap number_said e),
+    let z = points_refused (zone_file_of zone) (kind_number r.kind) r.place h in
+    let e = report_zone_first zone bytes (length lent) (kind_number r.kind) r.place z in (
+      said_once q (Err (RefusedZone r)) (s.answer ∙ ap number_said e),
       s.bytes ∙ ap (λ (t : Told (List ℕ)). lent_after t lent) e,
     )
 
 releases_number : (o : Outcome (List ℕ)) (number place : ℕ) → refused_zone number place ≡ number_said (of_releases o) → ⊥
-releases_number (answers codes) number place e = let z : ◌≡◌ {A = ℕ} 0 1 = cc in omega arith
-releases_number (refuses n p) number place e = let z : ◌≡◌ {A = ℕ} 0 1 = cc in omega arith
+releases_number (answers codes) number place e = never (cc)
+releases_number (refuses n p) number place e = never (cc)
 
-pub judge_corners_report : (zone bytes lent : List ℕ) (n : ℕ) → JudgeSays zone (Corners n)
-    → (r : Refusal) (left : List ℕ) → ReportSays zone bytes lent (RefusedZone r) left → ⊥
+pub judge_corners_report : (zone bytes lent : List ℕ) (n : ℕ) → JudgeSays zone (Ok n)
+    → (r : Refusal) (left : List ℕ) → ReportSays zone bytes lent (Err (RefusedZone r)) left → ⊥
 judge_corners_report zone bytes lent n h r left s =
     let a = also_answered (zone_file_of zone) _ (sym h) in
-    releases_number (releases_of a.0 bytes (length lent)) r.number r.place
+    releases_number (releases_of a.0 bytes (length lent)) (kind_number r.kind) r.place
     (s.answer ∙ ap number_said (report_judged zone bytes (length lent) a.0 a.1))
 
 -- ---- what a report leaves
 told_releases : (told : Told (List ℕ)) (n : ℕ) → releases n ≡ number_said told
     → (codes : List ℕ) × (told ≡ releases codes) × (length codes ≡ n)
 told_releases (releases codes) n e = (codes, refl, cc)
-told_releases (refused_zone number place) n e = absurd (let z : ◌≡◌ {A = ℕ} 0 1 = cc in omega arith)
-told_releases (refused_releases number place) n e = absurd (let z : ◌≡◌ {A = ℕ} 0 1 = cc in omega arith)
+told_releases (refused_zone number place) n e = never (cc)
+told_releases (refused_releases number place) n e = never (cc)
 
 -- n codes, those of the releases in the zone, stand at the start of the lent bytes; later bytes stay
 pub record Stands (zone bytes lent : List ℕ) (n : ℕ) (left : List ℕ) : Type 0 where
@@ -55,7 +56,7 @@ pub record Stands (zone bytes lent : List ℕ) (n : ℕ) (left : List ℕ) : Typ
   pub codes : Reported zone bytes (take n left)
   pub later : drop n left ≡ drop n lent
 
-pub report_stands : (zone bytes lent : List ℕ) (n : ℕ) (left : List ℕ) → ReportSays zone bytes lent (Releases n) left
+pub report_stands : (zone bytes lent : List ℕ) (n : ℕ) (left : List ℕ) → ReportSays zone bytes lent (Ok n) left
     → Stands zone bytes lent n left
 report_stands zone bytes lent n left s =
     let t = told_releases (report_of zone bytes (length lent)) n s.answer in

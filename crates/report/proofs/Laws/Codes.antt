@@ -5,32 +5,33 @@ use mathlib.Core.Path.{◌≡◌, refl, sym, ap, ap₂, ◌∙◌}
 use mathlib.Core.List.{List, [], ◌∷◌, ◌++◌}
 use native.Mathlib.Numerals.{add-one}
 use native.Mathlib.Omega.{arith}
-use lib.ListN.{length, take, drop, get_or, set, length-set}
-use lib.Seq.{append_snoc, take-suc, drop-cons, set_at, take_all, length-take-le}
+use lib.ListN.{length, take, get_or, set, length-set}
+use lib.Seq.{take-suc, take-suc-set, take_all}
 use lib.Ieee.{Float}
-use Rattle.refusal.specs.Outcome.{answers, refuses}
+use Rattle.std.specs.Prelude.{Err, Ok, Result}
+use Rattle.std.specs.Result.{IsOk}
 use Rattle.refusal.specs.declared.Refusal.{Refusal}
+use Rattle.refusal.specs.Outcome.{answers}
+use Rattle.refusal.proofs.Laws.Outcome.{no_refusal}
 use Rattle.point.specs.declared.Point.{Point}
 use Rattle.point.specs.Accepted.{Accepted}
+use Rattle.geometry.specs.declared.answer.Place.{Place}
 use Rattle.geometry.specs.Zone.{points_of, place_in, corner_at}
 use Rattle.ground.specs.Zone.{Lies, outside, border, inside, place_number}
 use Rattle.geometry.specs.Zone.{place_said, zone_said, zone_of}
-use Rattle.geometry.specs.declared.answer.Place.{Place}
-use Rattle.geometry.specs.declared.answer.Zone.{Zone}
-use Rattle.geometry.specs.declared.answer.Zone.TheVariants.{At, Refused}
 use Rattle.geometry.proofs.Laws.Corners.{corners_count, corners_entry}
 use Rattle.geometry.proofs.Laws.Answered.{zoned_answers}
 use Rattle.track.specs.Write.{AllAccepted}
 use Rattle.report.specs.Report.{code_of, codes_of}
-use Rattle.report.specs.Parts.{IsZone, codes_then}
+use Rattle.report.specs.Parts.{IsZone}
 
 -- ---- one release
-module _ (corners : List Float) (p : Point) (z : Zone) (zoned : IsZone corners) (accepted : Accepted p)
+module _ (corners : List Float) (p : Point) (z : Result Place Refusal) (zoned : IsZone corners) (accepted : Accepted p)
     (s : zone_said z ≡ zone_of corners p) where
   placed : zone_said z ≡ answers (place_in corners p)
   placed = s ∙ zoned_answers corners (length corners / 2) p zoned accepted
 
-  pub code_place : (place : Place) → z ≡ At place → place_number (place_said place) ≡ code_of corners p
+  pub code_place : (place : Place) → z ≡ Ok place → place_number (place_said place) ≡ code_of corners p
   unfolding zone_said code_of
   code_place place e =
       let at : answers (place_said place) ≡ answers (place_in corners p) = ap zone_said (sym e) ∙ placed in
@@ -38,12 +39,13 @@ module _ (corners : List Float) (p : Point) (z : Zone) (zoned : IsZone corners) 
       ap place_number same
 
   -- a judged zone refuses no accepted point
-  pub code_never : (r : Refusal) → z ≡ Refused r → ⊥
+  pub code_placed : IsOk z
   unfolding zone_said
-  code_never r e =
-      let at : refuses r.number r.place ≡ answers (place_in corners p) = ap zone_said (sym e) ∙ placed in
-      let no : ◌≡◌ {A = ℕ} 0 1 = cc in
-      omega arith
+  code_placed = go z placed
+    where
+      go : (r : Result Place Refusal) → zone_said r ≡ answers (place_in corners p) → IsOk r
+      go (Ok place) e = refl
+      go (Err r) e = no_refusal e
 
 -- the code's number is the place's, for whatever the zone answers
 pub code_zone : (corners : List Float) (p : Point) (lies : Lies) → IsZone corners → Accepted p
@@ -89,36 +91,30 @@ codes_at corners points k h =
 pub accepted_at : (points : List Float) (i : ℕ) → AllAccepted points → i < length points / 2 → Accepted (corner_at points i)
 accepted_at points i all h = record { x = all (2 * i) (omega arith); y = all (2 * i + 1) (omega arith) }
 
--- i of them stand at the start of the lent bytes
-pub record Coding (corners points : List Float) (lent codes : List ℕ) (i : ℕ) : Type 0 where
-  pub few : i ≤ length points / 2
-  pub len : length codes ≡ length lent
-  pub all : codes ≡ take i (codes_of corners (points_of points)) ++ drop i lent
+-- the first i of them stand in the list
+pub record Coding (corners points : List Float) (codes : List ℕ) (i : ℕ) : Type 0 where
+  pub len : length codes ≡ length points / 2
+  pub all : take i codes ≡ take i (codes_of corners (points_of points))
 
-pub coding_start : (corners points : List Float) (lent : List ℕ) → Coding corners points lent lent 0
-coding_start corners points lent = record { few = omega arith; len = refl; all = refl }
+pub coding_start : (corners points : List Float) (codes : List ℕ) → length codes ≡ length points / 2 → Coding corners points codes 0
+coding_start corners points codes e = record { len = e; all = refl }
 
-module _ (corners points : List Float) (lent codes : List ℕ) (i : ℕ) (p : Coding corners points lent codes i) where
+module _ (corners points : List Float) (codes : List ℕ) (i : ℕ) (p : Coding corners points codes i) where
   list : List ℕ
   list = codes_of corners (points_of points)
 
-  pub coding_turn : i < length points / 2 → i < length lent → (v : ℕ) → v ≡ code_of corners (corner_at points i)
-      → Coding corners points lent (set codes i v) (i + 1)
+  pub coding_turn : i < length codes → (v : ℕ) → v ≡ code_of corners (corner_at points i) → Coding corners points (set codes i v) (i + 1)
   unfolding list
-  coding_turn l k v e =
-      let within : i < length list = omega (arith, codes_length corners points) in
-      let done : length (take i list) ≡ i = length-take-le i list (omega arith) in
-      let own : get_or list i 0 ≡ v = codes_at corners points i l ∙ sym e in
+  coding_turn l v e =
+      let within : i < length list = omega (arith, p.len, codes_length corners points) in
+      let own : v ≡ get_or list i 0 = e ∙ sym (codes_at corners points i (omega (arith, p.len))) in
       record {
-        few = omega arith;
         len = length-set codes i v ∙ p.len;
-        all = rw (p.all, drop-cons lent i 0 k, add-one i, take-suc list i 0 within, own)
-            (set_at (take i list) (get_or lent i 0) (drop (suc i) lent) v i done ∙ sym (append_snoc (take i list) v (drop (suc i) lent)));
+        all = rw (add-one i)
+            (take-suc-set codes i v l ∙ ap₂ (λ (a : List ℕ) (y : ℕ). a ++ (y ∷ [])) p.all own ∙ sym (take-suc list i 0 within));
       }
 
-  pub coding_done : length points / 2 ≤ i → codes ≡ codes_then corners points lent
-  unfolding list
+  pub coding_done : length codes ≤ i → codes ≡ codes_of corners (points_of points)
   coding_done h =
-      let e : i ≡ length points / 2 = omega (arith, p.few) in
-      let whole : length list ≤ i = omega (arith, codes_length corners points) in
-      p.all ∙ ap₂ (λ (a : List ℕ) (k : ℕ). a ++ drop k lent) (take_all i list whole) e
+      let few : length (codes_of corners (points_of points)) ≤ i = omega (arith, p.len, codes_length corners points) in
+      sym (take_all i codes h) ∙ p.all ∙ take_all i (codes_of corners (points_of points)) few

@@ -1,6 +1,7 @@
 -- The report of the releases. In order: what is told of the releases in a judged zone, and of both files, for the functions that tell it;
 -- the zone's refusal comes first, whatever the release file holds; what the codes are; which refusals there are; the first 10,243 bytes are
 -- enough; no two results satisfy the promise. Not here: the zone by itself (`Zone`), the two calls together (`Calls`). Assumes nothing.
+use Rattle.std.specs.Prelude.{Err, Ok, Result}
 use Prim.Native.Nat.{ℕ, ◌+◌, ◌*◌, ◌/◌, ◌≤◌, ◌<◌}
 use mathlib.Core.Path.{◌≡◌, refl, sym, ap, ap₂, ◌∙◌, subst}
 use mathlib.Core.Bool.{true}
@@ -10,8 +11,10 @@ use borrow.Author.Tests.{le-leb, lt-leb, leb-true}
 use lib.Dec.{T, leb}
 use lib.ListN.{length, take, drop, get_or}
 use lib.Ieee.{Float}
-use Rattle.refusal.specs.Outcome.{Outcome, answers, refuses, Fixes, no_room}
+use Rattle.refusal.specs.declared.Kind.TheVariants.{NoRoom}
 use Rattle.refusal.specs.declared.Refusal.{Refusal}
+use Rattle.refusal.specs.Outcome.{Outcome, answers, refuses, Fixes, no_room, kind_number}
+use Rattle.refusal.proofs.Laws.Outcome.{refusal_once, never}
 use Rattle.geometry.specs.Zone.{points_of, place_in, corner_at, zone_of}
 use Rattle.ground.specs.Zone.{Lies, place_number}
 use Rattle.geometry.proofs.Laws.Answered.{zoned_answers}
@@ -20,14 +23,13 @@ use Rattle.track.specs.File.{limit, most_bytes}
 use Rattle.refusal.proofs.Laws.Judged.{also_answers, also_refuses, require_holds, require_fails, also_answered, require_answered}
 use Rattle.track.proofs.Laws.Refusals.{Only, only_answers, only_also, only_require_held, is_readers, read_only}
 use Rattle.track.proofs.Laws.Points.{PointList, read_points, Held}
+use Rattle.report.specs.declared.answer.ReportRefusal.TheVariants.{Zone as RefusedZone, Releases as RefusedReleases}
+use Rattle.report.specs.declared.answer.ReportRefusal.{ReportRefusal}
 use Rattle.report.specs.Zone.{file_holds, zone_file_of}
 use Rattle.report.specs.Parts.{JudgedHeld}
 use Rattle.report.specs.Report.{codes_of, releases_of, Told, releases, refused_zone, refused_releases, of_releases, report_of}
 use Rattle.report.specs.Report.{number_said, lent_after, report_said, Tells, ReportSays}
-use Rattle.report.specs.Parts.{CodedSays, codes_then}
-use Rattle.report.specs.declared.answer.Judged.TheVariants.{Corners, Refused}
-use Rattle.report.specs.declared.answer.Report.{Report}
-use Rattle.report.specs.declared.answer.Report.TheVariants.{Releases, RefusedZone, RefusedReleases}
+use Rattle.report.specs.Parts.{CodedSays}
 use Rattle.report.proofs.Laws.Zone.{refuses_same, zone_file_zoned, is_zones}
 use Rattle.report.proofs.Laws.Zone.{zone_file_only, file_enough, zone_file_enough}
 use Rattle.report.proofs.Laws.Codes.{number_most, code_zone, codes_length, codes_at, accepted_at}
@@ -35,14 +37,14 @@ use Rattle.report.proofs.Laws.Codes.{number_most, code_zone, codes_length, codes
 -- ---- what is told of the releases
 -- a call of an outcome that is known
 module _ (told : Told (List ℕ)) (lent : List ℕ) where
-  tells_refused : (r : Refusal) → told ≡ refused_releases r.number r.place → Tells told lent (RefusedReleases r) lent
+  tells_refused : (r : Refusal) → told ≡ refused_releases (kind_number r.kind) r.place → Tells told lent (Err (RefusedReleases r)) lent
   tells_refused r e = record {
     answer = sym (ap number_said e);
     bytes = sym (ap (λ (t : Told (List ℕ)). lent_after t lent) e);
   }
 
   tells_codes : (codes left : List ℕ) (n : ℕ) → told ≡ releases codes → length codes ≡ n → left ≡ codes ++ drop n lent
-      → Tells told lent (Releases n) left
+      → Tells told lent (Ok n) left
   tells_codes codes left n e size l = record {
     answer = ap releases (sym size) ∙ sym (ap number_said e);
     bytes = l ∙ ap (λ (k : ℕ). codes ++ drop k lent) (sym size) ∙ sym (ap (λ (t : Told (List ℕ)). lent_after t lent) e);
@@ -52,8 +54,8 @@ abbrev told_of : List Float → List ℕ → List ℕ → Told (List ℕ)
 told_of corners bytes lent = of_releases (releases_of corners bytes (length lent))
 
 module _ (corners : List Float) (bytes lent : List ℕ) where
-  pub told_unread : (r : Refusal) → file_holds bytes ≡ refuses r.number r.place
-      → CodedSays corners bytes lent (RefusedReleases r) lent
+  pub told_unread : (r : Refusal) → file_holds bytes ≡ refuses (kind_number r.kind) r.place
+      → CodedSays corners bytes lent (Err (RefusedReleases r)) lent
   unfolding releases_of
   told_unread r e = tells_refused (told_of corners bytes lent) lent r (ap of_releases (also_refuses _ e))
 
@@ -62,7 +64,7 @@ module _ (corners : List Float) (bytes lent : List ℕ) where
     half = omega (arith, h.many)
 
     pub told_short : length lent < n
-        → CodedSays corners bytes lent (RefusedReleases (record { number = no_room; place = 0 })) lent
+        → CodedSays corners bytes lent (Err (RefusedReleases (record { kind = NoRoom; place = 0 }))) lent
     unfolding releases_of
     told_short l =
         let short : length lent < length (take (2 * n) left) / 2 = omega (arith, half) in
@@ -70,15 +72,15 @@ module _ (corners : List Float) (bytes lent : List ℕ) where
         (ap of_releases (also_answers _ h.read ∙ require_fails no_room 0 _ (lt-leb _ _ short)))
 
     pub told_codes : n ≤ length lent → (codes : List ℕ)
-        → codes ≡ codes_then corners (take (2 * n) left) lent → CodedSays corners bytes lent (Releases n) codes
+        → codes ≡ codes_of corners (points_of (take (2 * n) left)) → CodedSays corners bytes lent (Ok n) (codes ++ drop n lent)
     unfolding releases_of
     told_codes l codes e =
         let points = take (2 * n) left in
         let enough : length points / 2 ≤ length lent = omega (arith, half) in
-        tells_codes (told_of corners bytes lent) lent (codes_of corners (points_of points)) codes n
+        tells_codes (told_of corners bytes lent) lent (codes_of corners (points_of points)) (codes ++ drop n lent) n
         (ap of_releases (also_answers _ h.read ∙ require_holds no_room 0 _ (le-leb _ _ enough)))
         (codes_length corners points ∙ half)
-        (e ∙ ap (λ (k : ℕ). codes_of corners (points_of points) ++ drop k lent) half)
+        (ap (λ (z : List ℕ). z ++ drop n lent) e)
 
 -- ---- what is told of both files
 -- The zone is judged first: its refusal is told whatever the release file and the room are.
@@ -93,12 +95,12 @@ unfolding report_of
 report_judged zone bytes room corners e = rw e
 
 module _ (zone bytes lent : List ℕ) (list : List Float) where
-  pub says_refused : (r : Refusal) → JudgedHeld zone (Refused r) list → ReportSays zone bytes lent (RefusedZone r) lent
+  pub says_refused : (r : Refusal) → JudgedHeld zone (Err r) list → ReportSays zone bytes lent (Err (RefusedZone r)) lent
   says_refused r h =
-      let e = report_zone_first zone bytes (length lent) r.number r.place (sym h.corners) in
+      let e = report_zone_first zone bytes (length lent) (kind_number r.kind) r.place (sym h.corners) in
       record { answer = sym (ap number_said e); bytes = sym (ap (λ (t : Told (List ℕ)). lent_after t lent) e) }
 
-  pub says_told : (n : ℕ) → JudgedHeld zone (Corners n) list → (r : Report) (left : List ℕ)
+  pub says_told : (n : ℕ) → JudgedHeld zone (Ok n) list → (r : Result ℕ ReportRefusal) (left : List ℕ)
       → CodedSays (take (2 * n) list) bytes lent r left → ReportSays zone bytes lent r left
   says_told n h r left t =
       let e = report_judged zone bytes (length lent) (take (2 * n) list) (sym h.corners) in
@@ -106,8 +108,8 @@ module _ (zone bytes lent : List ℕ) (list : List Float) where
 
 -- and no other is told as the zone's
 releases_not_zone : (o : Outcome (List ℕ)) (number place : ℕ) → of_releases o ≡ refused_zone number place → ⊥
-releases_not_zone (answers codes) number place e = let z : ◌≡◌ {A = ℕ} 0 1 = cc in omega arith
-releases_not_zone (refuses n p) number place e = let z : ◌≡◌ {A = ℕ} 0 1 = cc in omega arith
+releases_not_zone (answers codes) number place e = never (cc)
+releases_not_zone (refuses n p) number place e = never (cc)
 
 pub report_zone_refused : (zone bytes : List ℕ) (room number place : ℕ) → report_of zone bytes room ≡ refused_zone number place
     → zone_file_of zone ≡ refuses number place
@@ -125,10 +127,10 @@ report_zone_refused zone bytes room number place e = go (zone_file_of zone) refl
 -- what is told of the releases alone
 releases_answered : (o : Outcome (List ℕ)) (codes : List ℕ) → of_releases o ≡ releases codes → o ≡ answers codes
 releases_answered (answers list) codes e = let same : list ≡ codes = cc in ap answers same
-releases_answered (refuses n p) codes e = absurd (let z : ◌≡◌ {A = ℕ} 0 1 = cc in omega arith)
+releases_answered (refuses n p) codes e = never (cc)
 
 releases_refused : (o : Outcome (List ℕ)) (number place : ℕ) → of_releases o ≡ refused_releases number place → o ≡ refuses number place
-releases_refused (answers list) number place e = absurd (let z : ◌≡◌ {A = ℕ} 0 1 = cc in omega arith)
+releases_refused (answers list) number place e = never (cc)
 releases_refused (refuses n p) number place e =
     let same : n ≡ number = cc in
     let there : p ≡ place = cc in
@@ -189,7 +191,7 @@ reported zone bytes codes corners points z r list = record {
 report_releases : (zone bytes : List ℕ) (room : ℕ) (codes : List ℕ) → report_of zone bytes room ≡ releases codes
     → (corners : List Float) × (zone_file_of zone ≡ answers corners) × (releases_of corners bytes room ≡ answers codes)
 report_releases zone bytes room codes e =
-    let z = report_zone zone bytes room (λ n p f. let c : ◌≡◌ {A = ℕ} 0 1 = cc (sym e ∙ f) in omega arith) in
+    let z = report_zone zone bytes room (λ n p f. never (cc (sym e ∙ f))) in
     (z.0, z.1, releases_answered (releases_of z.0 bytes room) codes (sym (report_judged zone bytes room z.0 z.1) ∙ e))
 
 releases_list : (corners : List Float) (bytes : List ℕ) (room : ℕ) (codes : List ℕ) → releases_of corners bytes room ≡ answers codes
@@ -234,7 +236,7 @@ report_codes_most zone bytes room codes e k l =
 pub report_releases_refused : (zone bytes : List ℕ) (room number place : ℕ) → report_of zone bytes room ≡ refused_releases number place
     → (corners : List Float) × (zone_file_of zone ≡ answers corners) × (releases_of corners bytes room ≡ refuses number place)
 report_releases_refused zone bytes room number place e =
-    let z = report_zone zone bytes room (λ n p f. let c : ◌≡◌ {A = ℕ} 0 1 = cc (sym e ∙ f) in omega arith) in (
+    let z = report_zone zone bytes room (λ n p f. never (cc (sym e ∙ f))) in (
       z.0,
       z.1,
       releases_refused (releases_of z.0 bytes room) number place (sym (report_judged zone bytes room z.0 z.1) ∙ e),
@@ -275,21 +277,18 @@ unfolding report_of releases_of
 report_enough zone bytes room all_zone all = rw (zone_file_enough zone all_zone, file_enough bytes all)
 
 -- ---- no two results satisfy the promise
-refusal_once : (r q : Refusal) → r.number ≡ q.number → r.place ≡ q.place → r ≡ q
-refusal_once r q n p = ap₂ (λ (a b : ℕ). let x : Refusal = record { number = a; place = b } in x) n p
-
-pub said_once : (a b : Report) → report_said a ≡ report_said b → a ≡ b
-said_once (Releases m) (Releases n) e = let p : m ≡ n = cc in ap Releases p
-said_once (Releases m) (RefusedZone q) e = absurd (let z : ◌≡◌ {A = ℕ} 0 1 = cc in omega arith)
-said_once (Releases m) (RefusedReleases q) e = absurd (let z : ◌≡◌ {A = ℕ} 0 1 = cc in omega arith)
-said_once (RefusedZone r) (Releases n) e = absurd (let z : ◌≡◌ {A = ℕ} 0 1 = cc in omega arith)
-said_once (RefusedZone r) (RefusedZone q) e = ap RefusedZone (refusal_once r q (cc) (cc))
-said_once (RefusedZone r) (RefusedReleases q) e = absurd (let z : ◌≡◌ {A = ℕ} 0 1 = cc in omega arith)
-said_once (RefusedReleases r) (Releases n) e = absurd (let z : ◌≡◌ {A = ℕ} 0 1 = cc in omega arith)
-said_once (RefusedReleases r) (RefusedZone q) e = absurd (let z : ◌≡◌ {A = ℕ} 0 1 = cc in omega arith)
-said_once (RefusedReleases r) (RefusedReleases q) e = ap RefusedReleases (refusal_once r q (cc) (cc))
+pub said_once : (a b : Result ℕ ReportRefusal) → report_said a ≡ report_said b → a ≡ b
+said_once (Ok m) (Ok n) e = let p : m ≡ n = cc in ap Ok p
+said_once (Ok m) (Err (RefusedZone q)) e = never (cc)
+said_once (Ok m) (Err (RefusedReleases q)) e = never (cc)
+said_once (Err (RefusedZone r)) (Ok n) e = never (cc)
+said_once (Err (RefusedZone r)) (Err (RefusedZone q)) e = ap (λ (f : Refusal). Err (RefusedZone f)) (refusal_once r q (cc) (cc))
+said_once (Err (RefusedZone r)) (Err (RefusedReleases q)) e = never (cc)
+said_once (Err (RefusedReleases r)) (Ok n) e = never (cc)
+said_once (Err (RefusedReleases r)) (Err (RefusedZone q)) e = never (cc)
+said_once (Err (RefusedReleases r)) (Err (RefusedReleases q)) e = ap (λ (f : Refusal). Err (RefusedReleases f)) (refusal_once r q (cc) (cc))
 
 -- neither the answer nor a lent byte is left open
-pub report_fixed : (zone bytes lent : List ℕ) → Fixes (λ (w : Report × List ℕ). ReportSays zone bytes lent w.0 w.1)
+pub report_fixed : (zone bytes lent : List ℕ) → Fixes (λ (w : Result ℕ ReportRefusal × List ℕ). ReportSays zone bytes lent w.0 w.1)
 report_fixed zone bytes lent a b p q =
-    ap₂ (λ (r : Report) (left : List ℕ). (r, left)) (said_once a.0 b.0 (p.answer ∙ sym q.answer)) (p.bytes ∙ sym q.bytes)
+    ap₂ (λ (r : Result ℕ ReportRefusal) (left : List ℕ). (r, left)) (said_once a.0 b.0 (p.answer ∙ sym q.answer)) (p.bytes ∙ sym q.bytes)

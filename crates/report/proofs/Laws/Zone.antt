@@ -1,6 +1,7 @@
 -- The zone, judged from its file. In order: what the reader and the two limits come to, for the function that asks them; the zone of a file
 -- is one that geometry does not refuse, and the zone rule refuses as the definition does; which refusals there are; the first 10,243 bytes
 -- are enough; no two results satisfy the promise. Not here: the releases (`Report`). Assumes nothing.
+use Rattle.std.specs.Prelude.{Err, Ok, Result}
 use Prim.Native.Nat.{ℕ, ◌+◌, ◌*◌, ◌/◌, ◌%◌, ◌≤◌, ◌<◌}
 use mathlib.Core.Path.{◌≡◌, refl, sym, ap, ap₂, ◌∙◌, subst}
 use mathlib.Core.Bool.{Bool, true, false, ◌||◌}
@@ -10,9 +11,12 @@ use borrow.Author.Tests.{le-leb, lt-leb, leb-true, leb-false}
 use lib.Dec.{eqb, leb}
 use lib.ListN.{length, take}
 use lib.Ieee.{Float}
-use Rattle.refusal.specs.Outcome.{Outcome, answers, refuses, Fixes, too_many, too_few_corners}
+use Rattle.std.specs.Result.{MatchResult, IsErrAnd}
+use Rattle.std.proofs.lemmas.Result.{err_from_is_err_and}
+use Rattle.refusal.specs.declared.Kind.TheVariants.{TooFewCorners, TooMany}
 use Rattle.refusal.specs.declared.Refusal.{Refusal}
-use Rattle.refusal.proofs.Laws.Outcome.{refuses_once}
+use Rattle.refusal.specs.Outcome.{Outcome, answers, refuses, Fixes, too_many, too_few_corners, kind_number}
+use Rattle.refusal.proofs.Laws.Outcome.{outcome_once, never}
 use Rattle.point.specs.declared.Point.{Point}
 use Rattle.point.specs.Accepted.{Accepted}
 use Rattle.geometry.specs.Zone.{fewest, most, Zoned, zone_of}
@@ -22,16 +26,26 @@ use Rattle.refusal.specs.Judged.{require, also}
 use Rattle.number.specs.Number.{Bytes}
 use Rattle.track.specs.File.{limit, most_bytes}
 use Rattle.track.specs.Read.{read_of, points_said, said, ReadSays}
-use Rattle.track.specs.declared.answer.Reading.{Reading}
-use Rattle.track.specs.declared.answer.Reading.TheVariants.{Points, Refused as Unread}
-use Rattle.refusal.proofs.Laws.Judged.{also_answers, also_refuses, require_holds, require_fails, also_answered, require_answered}
+use Rattle.refusal.proofs.Laws.Judged.{also_answers, also_refuses, require_holds, require_fails, also_answered, also_refused, require_answered}
 use Rattle.track.proofs.Laws.Refusals.{Only, only_answers, only_also, only_require, is_readers, read_only}
 use Rattle.track.proofs.Laws.Points.{PointList, read_points, Held, read_held}
 use Rattle.track.proofs.Laws.Calls.{read_enough}
-use Rattle.report.specs.Zone.{file_holds, zone_file_of, judged_said, JudgeSays}
+use Rattle.report.specs.Zone.{file_holds, zone_file_of, JudgeSays}
 use Rattle.report.specs.Parts.{JudgedHeld}
-use Rattle.report.specs.declared.answer.Judged.{Judged}
-use Rattle.report.specs.declared.answer.Judged.TheVariants.{Corners, Refused}
+
+-- ---- what a refusal that is wrapped tells of the call: `r` as it answers, `q` with its refusal wrapped
+module _ {A E D : Type 0} (wrapped : E → D → Type 0) {q : Result A D} where
+  pub wrapped_ok : (r : Result A E) → MatchResult r (λ x. q ≡ Ok x) (λ e. IsErrAnd q (wrapped e)) → {n : A} → q ≡ Ok n → r ≡ Ok n
+  wrapped_ok (Ok x) h {n} k = let same : x ≡ n = cc (sym h ∙ k) in ap Ok same
+  wrapped_ok (Err e) h k = let p = err_from_is_err_and q h in never (cc (sym k ∙ p.1))
+
+  pub wrapped_err : (r : Result A E) → MatchResult r (λ x. q ≡ Ok x) (λ e. IsErrAnd q (wrapped e)) → {d : D} → q ≡ Err d
+      → (e : E) × (r ≡ Err e) × wrapped e d
+  wrapped_err (Ok x) h k = never (cc (sym h ∙ k))
+  wrapped_err (Err e) h {d} k =
+      let p = err_from_is_err_and q h in
+      let same : p.0 ≡ d = cc (sym p.1 ∙ k) in
+      (e, refl, subst (wrapped e) same p.2)
 
 -- ---- what a read comes to
 pub refuses_same : {A : Type 0} {a b m n : ℕ} → a ≡ m → b ≡ n → ◌≡◌ {A = Outcome A} (refuses a b) (refuses m n)
@@ -39,29 +53,25 @@ refuses_same {A} p q = ap₂ (λ (m n : ℕ). let o : Outcome A = refuses m n in
 
 -- a refused read leaves nothing else to say
 pub points_refused : (o : Outcome (List Float)) (number place : ℕ) → refuses number place ≡ points_said o → o ≡ refuses number place
-points_refused (refuses n p) number place e =
-    let same : number ≡ n = cc in
-    let there : place ≡ p = cc in
-    refuses_same (sym same) (sym there)
-points_refused (answers points) number place e = absurd (let z : ◌≡◌ {A = ℕ} 0 1 = cc in omega arith)
+points_refused o number place e = also_refused o (λ points. length points / 2) (sym e)
 
-module _ (bytes : List ℕ) (lent left : List Float) (r : Reading) (room : length lent ≡ 2 * limit) (s : ReadSays bytes lent r left) where
-  pub holds_refused : (q : Refusal) → r ≡ Unread q → file_holds bytes ≡ refuses q.number q.place
+module _ (bytes : List ℕ) (lent left : List Float) (r : Result ℕ Refusal) (room : length lent ≡ 2 * limit) (s : ReadSays bytes lent r left) where
+  pub holds_refused : (q : Refusal) → r ≡ Err q → file_holds bytes ≡ refuses (kind_number q.kind) q.place
   holds_refused q e =
       ap (read_of limit bytes) (sym room)
-      ∙ points_refused (read_of limit bytes (length lent)) q.number q.place (ap said (sym e) ∙ s.answer)
+      ∙ points_refused (read_of limit bytes (length lent)) (kind_number q.kind) q.place (ap said (sym e) ∙ s.answer)
 
-  pub holds_points : (n : ℕ) → r ≡ Points n → Held bytes (2 * limit) n left
+  pub holds_points : (n : ℕ) → r ≡ Ok n → Held bytes (2 * limit) n left
   holds_points n e =
-      subst (λ (k : ℕ). Held bytes k n left) room (read_held (subst (λ (r : Reading). ReadSays bytes lent r left) e s))
+      subst (λ (k : ℕ). Held bytes k n left) room (read_held (subst (λ (r : Result ℕ Refusal). ReadSays bytes lent r left) e s))
 
 -- ---- what the judging function finds
-judged_refused : (zone : List ℕ) (left : List Float) (r : Refusal) → zone_file_of zone ≡ refuses r.number r.place
-    → JudgedHeld zone (Refused r) left
+judged_refused : (zone : List ℕ) (left : List Float) (r : Refusal) → zone_file_of zone ≡ refuses (kind_number r.kind) r.place
+    → JudgedHeld zone (Err r) left
 judged_refused zone left r e = record { answer = sym (also_refuses _ e); corners = sym e }
 
-pub judged_unread : (zone : List ℕ) (left : List Float) (r : Refusal) → file_holds zone ≡ refuses r.number r.place
-    → JudgedHeld zone (Refused r) left
+pub judged_unread : (zone : List ℕ) (left : List Float) (r : Refusal) → file_holds zone ≡ refuses (kind_number r.kind) r.place
+    → JudgedHeld zone (Err r) left
 unfolding zone_file_of
 judged_unread zone left r e = judged_refused zone left r (also_refuses _ e)
 
@@ -69,7 +79,7 @@ module _ (zone : List ℕ) (left : List Float) (n : ℕ) (h : Held zone (2 * lim
   half : length (take (2 * n) left) / 2 ≡ n
   half = omega (arith, h.many)
 
-  pub judged_few : n < fewest → JudgedHeld zone (Refused (record { number = too_few_corners; place = 0 })) left
+  pub judged_few : n < fewest → JudgedHeld zone (Err (record { kind = TooFewCorners; place = 0 })) left
   unfolding zone_file_of
   judged_few l =
       let small : length (take (2 * n) left) / 2 < fewest = omega (arith, half) in
@@ -79,14 +89,14 @@ module _ (zone : List ℕ) (left : List Float) (n : ℕ) (h : Held zone (2 * lim
     enough : fewest ≤ length (take (2 * n) left) / 2
     enough = omega (arith, half)
 
-    pub judged_many : most < n → JudgedHeld zone (Refused (record { number = too_many; place = 0 })) left
+    pub judged_many : most < n → JudgedHeld zone (Err (record { kind = TooMany; place = 0 })) left
     unfolding zone_file_of
     judged_many l =
         let large : most < length (take (2 * n) left) / 2 = omega (arith, half) in
         judged_refused zone left _ (also_answers _ h.read ∙ require_holds too_few_corners 0 _ (le-leb _ _ enough)
         ∙ require_fails too_many 0 _ (lt-leb _ _ large))
 
-    pub judged_corners : n ≤ most → JudgedHeld zone (Corners n) left
+    pub judged_corners : n ≤ most → JudgedHeld zone (Ok n) left
     unfolding zone_file_of
     judged_corners l =
         let few : length (take (2 * n) left) / 2 ≤ most = omega (arith, half) in
@@ -117,10 +127,10 @@ zone_file_zoned bytes corners e =
     (points_zoned xs p (leb-true fewest (length xs / 2) some.0) (leb-true (length xs / 2) most few.0))
 
 -- for who judged it
-pub judged_as : (zone : List ℕ) (list : List Float) (r q : Judged) → JudgedHeld zone r list → r ≡ q → JudgedHeld zone q list
-judged_as zone list r q h e = subst (λ (a : Judged). JudgedHeld zone a list) e h
+pub judged_as : (zone : List ℕ) (list : List Float) (r q : Result ℕ Refusal) → JudgedHeld zone r list → r ≡ q → JudgedHeld zone q list
+judged_as zone list r q h e = subst (λ (a : Result ℕ Refusal). JudgedHeld zone a list) e h
 
-module _ (zone : List ℕ) (list : List Float) (n : ℕ) (h : JudgedHeld zone (Corners n) list) where
+module _ (zone : List ℕ) (list : List Float) (n : ℕ) (h : JudgedHeld zone (Ok n) list) where
   pub judged_zoned : Zoned (take (2 * n) list) (length (take (2 * n) list) / 2)
   judged_zoned = zone_file_zoned zone (take (2 * n) list) (sym h.corners)
 
@@ -170,7 +180,7 @@ zone_file_rule bytes p a = go (file_holds bytes) refl
     go (refuses n q) e = refl
 
 -- 3 to 64 corners are answered
-pub judge_corners : (zone : List ℕ) (n : ℕ) → JudgeSays zone (Corners n) → (fewest ≤ n) × (n ≤ most)
+pub judge_corners : (zone : List ℕ) (n : ℕ) → JudgeSays zone (Ok n) → (fewest ≤ n) × (n ≤ most)
 judge_corners zone n h =
     let a = also_answered (zone_file_of zone) _ (sym h) in
     let half : length a.0 / 2 ≡ n = cc a.2 in
@@ -218,11 +228,5 @@ unfolding zone_file_of
 zone_file_enough bytes all = rw (file_enough bytes all)
 
 -- ---- no two results satisfy the promise
-said_once : (a b : Judged) → judged_said a ≡ judged_said b → a ≡ b
-said_once (Corners m) (Corners n) e = let p : m ≡ n = cc in ap Corners p
-said_once (Refused r) (Refused q) e = ap Refused (refuses_once {A = ℕ} r q e)
-said_once (Corners m) (Refused q) e = absurd (let z : ◌≡◌ {A = ℕ} 0 1 = cc in omega arith)
-said_once (Refused r) (Corners n) e = absurd (let z : ◌≡◌ {A = ℕ} 0 1 = cc in omega arith)
-
 pub judge_fixed : (zone : List ℕ) → Fixes (JudgeSays zone)
-judge_fixed zone a b p q = said_once a b (p ∙ sym q)
+judge_fixed zone a b p q = outcome_once _ (λ m n e. e) a b (p ∙ sym q)

@@ -1,8 +1,8 @@
--- The pieces that are printed to say why each release has its place. In order: the points of a file, for who read them; where there are no places the
--- desk's own text is the one piece; otherwise the header and the lines, one by one, and how many they are; what was found of two good files, for who
--- prints its pieces. Assumes nothing.
+-- The pieces that are printed to say why each release has its place. In order: where there are no places the desk's own text is the one piece;
+-- otherwise the header and the lines, one by one, and how many they are; what was found of two good files, for who prints its pieces.
+-- Assumes nothing.
 use Prim.Native.Nat.{ℕ, zero, suc, ◌+◌, ◌*◌, ◌/◌, ◌<◌}
-use mathlib.Core.Path.{◌≡◌, refl, sym, ap, ap₂, ◌∙◌, subst}
+use mathlib.Core.Path.{◌≡◌, refl, sym, ap, ap₂, ◌∙◌}
 use mathlib.Core.Bool.{true, false}
 use mathlib.Core.List.{List, [], ◌∷◌}
 use native.Mathlib.Numerals.{add-one}
@@ -10,8 +10,12 @@ use native.Mathlib.Omega.{arith}
 use lib.Dec.{leb}
 use lib.Ieee.{Float}
 use lib.ListN.{length, get_or}
+use Rattle.std.specs.Prelude.{Some, None}
+use Rattle.std.specs.Option.{option_copied}
+use Rattle.std.specs.declared.option.Option.{Option}
 use Rattle.refusal.specs.Outcome.{Outcome, answers, refuses, too_many, too_few_corners}
 use Rattle.refusal.proofs.Laws.Judged.{also_answered, require_answered}
+use Rattle.refusal.proofs.Laws.Outcome.{never, no_refusal}
 use Rattle.point.specs.declared.Point.{Point}
 use Rattle.point.specs.Accepted.{Accepted}
 use Rattle.geometry.specs.Zone.{fewest, most, Zoned, points_of, corner_at}
@@ -22,40 +26,32 @@ use Rattle.report.specs.Zone.{file_holds, zone_file_of}
 use Rattle.report.proofs.Laws.Zone.{zone_file_zoned}
 use Rattle.report.proofs.Laws.Codes.{accepted_at}
 use Rattle.serve.specs.Text.{header_text}
-use Rattle.serve.specs.Printed.{Found, bytes, nothing, printed, is_answer, is_good}
-use Rattle.serve.specs.Reasons.{reason_line, reason_lines, explained_as, explained}
-use Rattle.serve.specs.Parts.{points_found, ListedSays, Explains}
-use Rattle.serve.specs.declared.points.Listed.{Listed}
-
--- ---- the points of a file, for who read them
-pub listed_as : (file : Found) (list : List Float) (r q : Listed) → ListedSays file r list → r ≡ q → ListedSays file q list
-listed_as file list r q says e = subst (λ (l : Listed). ListedSays file l list) e says
-
--- an answer is no refusal
-never : {A : Type 0} {B : Type 0} (number place : ℕ) (a : A) → refuses number place ≡ answers a → B
-never number place a e = absurd (let z : ◌≡◌ {A = ℕ} 0 1 = cc in omega arith)
+use Rattle.serve.specs.Printed.{printed, is_answer, is_good}
+use Rattle.serve.specs.Reasons.{reason_line, reason_lines, explained_as, explained, explained_of}
+use Rattle.serve.specs.Parts.{points_found, Explains}
+use Rattle.serve.specs.declared.files.TwoFiles.{TwoFiles}
 
 -- ---- no places
 -- of a zone that is not good, the desk's text
-pub no_zone : (zone file : Found) → is_good zone ≡ false → explained zone file ≡ printed zone file ∷ []
+pub no_zone : (zone file : Option (List ℕ)) → is_good zone ≡ false → explained zone file ≡ printed zone file ∷ []
 unfolding explained is_good
-no_zone nothing file e = refl
-no_zone (bytes zone) nothing e = refl
-no_zone (bytes zone) (bytes file) e = go (zone_file_of zone) (printed (bytes zone) (bytes file)) e
+no_zone None file e = refl
+no_zone (Some zone) None e = refl
+no_zone (Some zone) (Some file) e = go (zone_file_of zone) (printed (Some zone) (Some file)) e
   where
     go : (o : Outcome (List Float)) (text : List ℕ) → is_answer o ≡ false → explained_as o (file_holds file) text ≡ text ∷ []
-    go (answers corners) text e = absurd (let z : ◌≡◌ {A = ℕ} 0 1 = cc in omega arith)
+    go (answers corners) text e = never (cc)
     go (refuses number place) text e = refl
 
 -- and of releases that can not be read or are refused
-pub no_releases : (zone file : Found) → is_answer (points_found file) ≡ false → explained zone file ≡ printed zone file ∷ []
+pub no_releases : (zone file : Option (List ℕ)) → is_answer (points_found file) ≡ false → explained zone file ≡ printed zone file ∷ []
 unfolding explained
-no_releases nothing file e = refl
-no_releases (bytes zone) nothing e = refl
-no_releases (bytes zone) (bytes file) e = go (zone_file_of zone) (file_holds file) (printed (bytes zone) (bytes file)) e
+no_releases None file e = refl
+no_releases (Some zone) None e = refl
+no_releases (Some zone) (Some file) e = go (zone_file_of zone) (file_holds file) (printed (Some zone) (Some file)) e
   where
     go : (o points : Outcome (List Float)) (text : List ℕ) → is_answer points ≡ false → explained_as o points text ≡ text ∷ []
-    go (answers corners) (answers points) text e = absurd (let z : ◌≡◌ {A = ℕ} 0 1 = cc in omega arith)
+    go (answers corners) (answers points) text e = never (cc)
     go (answers corners) (refuses number place) text e = refl
     go (refuses number place) points text e = refl
 
@@ -69,7 +65,7 @@ corners_of_file zone corners e =
     let few = require_answered (leb (length xs / 2) most) too_many 0 _ some.1 in
     a.1 ∙ few.1
 
-pub no_corners : (zone file : Found) → is_answer (points_found zone) ≡ false → explained zone file ≡ printed zone file ∷ []
+pub no_corners : (zone file : Option (List ℕ)) → is_answer (points_found zone) ≡ false → explained zone file ≡ printed zone file ∷ []
 unfolding is_good
 no_corners zone file e = no_zone zone file (bad zone e)
   where
@@ -77,9 +73,9 @@ no_corners zone file e = no_zone zone file (bad zone e)
     by zone (refuses number place) is e = refl
     by zone (answers corners) is e = sym (ap is_answer (corners_of_file zone corners is)) ∙ e
 
-    bad : (zone : Found) → is_answer (points_found zone) ≡ false → is_good zone ≡ false
-    bad nothing e = refl
-    bad (bytes zone) e = by zone (zone_file_of zone) refl e
+    bad : (zone : Option (List ℕ)) → is_answer (points_found zone) ≡ false → is_good zone ≡ false
+    bad None e = refl
+    bad (Some zone) e = by zone (zone_file_of zone) refl e
 
 -- ---- the header and the lines
 lines_count : (release : ℕ) (corners : List Float) (ps : List Point) → length (reason_lines release corners ps) ≡ length ps
@@ -98,67 +94,68 @@ lines_entry release corners (p ∷ ps) (suc i) other h =
 
 -- of good files
 pub good_explained : (zone file : List ℕ) (corners points : List Float) → zone_file_of zone ≡ answers corners → file_holds file ≡ answers points
-    → explained (bytes zone) (bytes file) ≡ header_text (length points / 2) ∷ reason_lines 1 corners (points_of points)
+    → explained (Some zone) (Some file) ≡ header_text (length points / 2) ∷ reason_lines 1 corners (points_of points)
 unfolding explained
 good_explained zone file corners points z f =
-    ap₂ (λ (o q : Outcome (List Float)). explained_as o q (printed (bytes zone) (bytes file))) z f
+    ap₂ (λ (o q : Outcome (List Float)). explained_as o q (printed (Some zone) (Some file))) z f
 
 -- one piece for the header, and one for each release
 pub pieces_count : (zone file : List ℕ) (corners points : List Float) → zone_file_of zone ≡ answers corners → file_holds file ≡ answers points
-    → length (explained (bytes zone) (bytes file)) ≡ suc (length points / 2)
+    → length (explained (Some zone) (Some file)) ≡ suc (length points / 2)
 pieces_count zone file corners points z f =
     ap (length {A = List ℕ}) (good_explained zone file corners points z f)
     ∙ ap suc (lines_count 1 corners (points_of points) ∙ corners_count points)
 
 -- ---- the corners and the releases that were found
 -- a good zone has the corners of its file
-good_corners : (zone : List ℕ) (corners : List Float) → is_good (bytes zone) ≡ true → file_holds zone ≡ answers corners
+good_corners : (zone : List ℕ) (corners : List Float) → is_good (Some zone) ≡ true → file_holds zone ≡ answers corners
     → zone_file_of zone ≡ answers corners
 unfolding is_good
 good_corners zone corners good e = go (zone_file_of zone) refl good
   where
     go : (o : Outcome (List Float)) → zone_file_of zone ≡ o → is_answer o ≡ true → o ≡ answers corners
-    go (refuses number place) is g = absurd (let z : ◌≡◌ {A = ℕ} 0 1 = cc in omega arith)
+    go (refuses number place) is g = never (cc)
     go (answers xs) is g = sym (corners_of_file zone xs is) ∙ e
 
-record Files (zone file : Found) (corners points : List Float) : Type 0 where
+record Good (zone file : Option (List ℕ)) (corners points : List Float) : Type 0 where
   zone_bytes : List ℕ
   file_bytes : List ℕ
-  zone_is : zone ≡ bytes zone_bytes
-  file_is : file ≡ bytes file_bytes
+  zone_is : zone ≡ Some zone_bytes
+  file_is : file ≡ Some file_bytes
   zone_good : zone_file_of zone_bytes ≡ answers corners
   file_good : file_holds file_bytes ≡ answers points
 
-files : (zone file : Found) (corners points : List Float) → Explains zone file corners points → Files zone file corners points
-files nothing file corners points x = never 0 0 corners x.corners_held
-files (bytes zone) nothing corners points x = never 0 0 points x.points_held
-files (bytes zone) (bytes file) corners points x = record {
+good : (zone file : Option (List ℕ)) (corners points : List Float) → is_good zone ≡ true → points_found zone ≡ answers corners
+    → points_found file ≡ answers points → Good zone file corners points
+good None file corners points g z f = no_refusal z
+good (Some zone) None corners points g z f = no_refusal f
+good (Some zone) (Some file) corners points g z f = record {
   zone_bytes = zone;
   file_bytes = file;
   zone_is = refl;
   file_is = refl;
-  zone_good = good_corners zone corners x.good x.corners_held;
-  file_good = x.points_held;
+  zone_good = good_corners zone corners g z;
+  file_good = f;
 }
 
-module _ (zone file : Found) (corners points : List Float) (x : Explains zone file corners points) where
-  all_pieces : explained zone file ≡ header_text (length points / 2) ∷ reason_lines 1 corners (points_of points)
+module _ (files : TwoFiles) (corners points : List Float) (x : Explains files corners points) where
+  found : Good (option_copied files.zone) (option_copied files.releases) corners points
+  found = good (option_copied files.zone) (option_copied files.releases) corners points x.good x.corners_held x.points_held
+
+  all_pieces : explained_of files ≡ header_text (length points / 2) ∷ reason_lines 1 corners (points_of points)
   all_pieces =
-      let f = files zone file corners points x in
-      ap₂ explained f.zone_is f.file_is ∙ good_explained f.zone_bytes f.file_bytes corners points f.zone_good f.file_good
+      ap₂ explained found.zone_is found.file_is ∙ good_explained found.zone_bytes found.file_bytes corners points found.zone_good found.file_good
 
   pub explained_zoned : Zoned corners (length corners / 2)
-  explained_zoned = let f = files zone file corners points x in zone_file_zoned f.zone_bytes corners f.zone_good
+  explained_zoned = zone_file_zoned found.zone_bytes corners found.zone_good
 
   pub explained_accepted : (i : ℕ) → i < length points / 2 → Accepted (corner_at points i)
-  explained_accepted i h =
-      let f = files zone file corners points x in
-      accepted_at points i (read_points limit f.file_bytes (2 * limit) points f.file_good).good h
+  explained_accepted i h = accepted_at points i (read_points limit found.file_bytes (2 * limit) points found.file_good).good h
 
-  pub explained_header : header_text (length points / 2) ≡ get_or (explained zone file) 0 []
+  pub explained_header : header_text (length points / 2) ≡ get_or (explained_of files) 0 []
   explained_header = sym (ap (λ (l : List (List ℕ)). get_or l 0 []) all_pieces)
 
-  pub explained_line : (i : ℕ) → i < length points / 2 → reason_line (i + 1) corners (corner_at points i) ≡ get_or (explained zone file) (i + 1) []
+  pub explained_line : (i : ℕ) → i < length points / 2 → reason_line (i + 1) corners (corner_at points i) ≡ get_or (explained_of files) (i + 1) []
   explained_line i h =
       let within : i < length (points_of points) = omega (arith, corners_count points) in
       sym (ap (λ (l : List (List ℕ)). get_or l (i + 1) []) all_pieces

@@ -1,6 +1,7 @@
 -- Why each release has its place, in words. In order: texts that are computed, one of each form; an entry by its byte; the entries, one by one; a
--- total; the border; what the reason of a place in a good zone is, by what was answered; its line. Not here: the pieces (`Explained`). Assumes nothing.
-use Prim.Native.Nat.{ℕ, zero, suc, ◌+◌, ◌*◌, ◌/◌, ◌%◌, ◌≤◌, ◌<◌}
+-- total; the border; what the reason of a place in a good zone is, by what was answered; its line. Not here: the pieces (`Explained`).
+-- Assumes nothing.
+use Prim.Native.Nat.{ℕ, suc, ◌+◌, ◌*◌, ◌/◌, ◌%◌, ◌≤◌, ◌<◌}
 use mathlib.Core.Path.{◌≡◌, refl, sym, ap, ap₂, ◌∙◌}
 use mathlib.Core.Bool.{Bool, true, false, cond}
 use mathlib.Core.List.{List, [], ◌∷◌, ◌++◌, map, append_assoc, append-nil}
@@ -11,10 +12,12 @@ use lib.IntN.{ℤ, pos, negsuc, nat_abs}
 use lib.Signed.{le_z}
 use borrow.Author.Tests.{leb-false}
 use lib.Ieee.{Float}
-use lib.ListN.{length, take, drop, get_or, length-map, drop_of_length-le}
+use lib.ListN.{length, take, drop, get_or, length-append, length-map, drop_of_length-le}
 use lib.Seq.{take_at, drop-cons}
-use Rattle.refusal.specs.Outcome.{Outcome, answers, refuses}
+use Rattle.std.specs.Prelude.{Result, Ok, Err, IsOk}
+use Rattle.refusal.specs.Outcome.{Outcome, answers}
 use Rattle.refusal.specs.declared.Refusal.{Refusal}
+use Rattle.refusal.proofs.Laws.Outcome.{never, no_refusal}
 use Rattle.ground.specs.Zone.{Lies, outside, border, inside}
 use Rattle.ground.specs.Edge.{edges_of}
 use Rattle.ground.specs.Reason.{Turn, up, down, Entry, entry, Reason, on_border, is_inside, is_outside, reason_at, reason_of, entries_of}
@@ -27,10 +30,10 @@ use Rattle.reason.specs.Why.{reason_in, code, why_of, why_said, numbered, number
 use Rattle.reason.specs.declared.answer.Met.{Met}
 use Rattle.reason.specs.declared.answer.Counted.{Counted}
 use Rattle.reason.specs.declared.answer.Why.{Why}
-use Rattle.reason.specs.declared.answer.Why.TheVariants.{Border, Inside, Outside, Refused}
+use Rattle.reason.specs.declared.answer.Why.TheVariants.{Border, Inside, Outside}
 use Rattle.reason.proofs.Laws.Why.{why_fits, few_entries}
 use Rattle.serve.specs.Text.{ascii, decimal_within, decimal}
-use Rattle.serve.specs.Reasons.{turn_text, entry_text, entries_text, list_text, total_text, counted_text, reason_text, reason_line}
+use Rattle.serve.specs.Reasons.{entry_text, entries_text, total_text, counted_text, reason_text, reason_line}
 use Rattle.serve.specs.Parts.{Puts, entry_of}
 
 -- ---- texts
@@ -84,73 +87,40 @@ pub entries_of_codes : (xs : List Entry) → map entry_of (map code xs) ≡ xs
 entries_of_codes [] = refl
 entries_of_codes (x ∷ xs) = ap₂ (λ (y : Entry) (ys : List Entry). y ∷ ys) (entry_of_code x) (entries_of_codes xs)
 
--- up or down
-pub entry_up : (byte : ℕ) → byte % 2 ≡ 0 → ascii "edge " ++ decimal (byte / 2) ++ ascii " up, " ≡ entry_text (entry_of byte)
-entry_up byte e = ap (λ (m : ℕ). ascii "edge " ++ decimal (byte / 2) ++ turn_text (cond (eqb m 0) up down)) (sym e)
-
-pub entry_down : (byte : ℕ) → (byte % 2 ≡ 0 → ⊥) → ascii "edge " ++ decimal (byte / 2) ++ ascii " down, " ≡ entry_text (entry_of byte)
-entry_down byte h =
-    let odd : 1 ≡ byte % 2 = odd_of (byte % 2) (omega arith) h in
-    ap (λ (m : ℕ). ascii "edge " ++ decimal (byte / 2) ++ turn_text (cond (eqb m 0) up down)) odd
-  where
-    odd_of : (m : ℕ) → m < 2 → (m ≡ 0 → ⊥) → 1 ≡ m
-    odd_of zero l h = absurd (h refl)
-    odd_of (suc zero) l h = refl
-    odd_of (suc (suc m)) l h = let z : ⊥ = omega arith in absurd z
-
 -- ---- the entries, one by one
 -- i of them stand
-pub record Entering (entries before : List ℕ) (len : ℕ) (out : List ℕ) (n i : ℕ) : Type 0 where
-  pub few : i ≤ length entries
-  pub short : n ≤ len + 32 * i
-  pub kept : length out ≡ length before
-  pub all : take n out ++ entries_text (map entry_of (drop i entries)) ≡ take len before ++ entries_text (map entry_of entries)
+pub record Entering (entries before out : List ℕ) (i : ℕ) : Type 0 where
+  pub short : length out ≤ length before + 32 * i
+  pub all : out ++ entries_text (map entry_of (drop i entries)) ≡ before ++ entries_text (map entry_of entries)
 
-pub entering_start : (entries before : List ℕ) (len : ℕ) → Entering entries before len before len 0
-entering_start entries before len = record { few = omega arith; short = omega arith; kept = refl; all = refl }
-
-module _ (entries before : List ℕ) (len : ℕ) (out : List ℕ) (n i : ℕ) (e : Entering entries before len out n i) where
-  pub entering_turn : i < length entries → (after : List ℕ) (r : ℕ) → Puts 32 out n (entry_text (entry_of (get_or entries i 0))) r after
-      → Entering entries before len after r (i + 1)
+module _ (entries before out : List ℕ) (i : ℕ) (e : Entering entries before out i) where
+  pub entering_turn : i < length entries → (after : List ℕ) → Puts 32 out (entry_text (entry_of (get_or entries i 0))) after
+      → Entering entries before after (i + 1)
   unfolding entries_text
-  entering_turn l after r p =
+  entering_turn l after p =
       let text = entry_text (entry_of (get_or entries i 0)) in
       let later = entries_text (map entry_of (drop (suc i) entries)) in
       record {
-        few = omega arith;
-        short = omega (arith, p.few, e.short);
-        kept = p.kept ∙ e.kept;
-        all = ap (λ (j : ℕ). take r after ++ entries_text (map entry_of (drop j entries))) (add-one i)
+        short = omega (arith, p.few, e.short, ap length p.stands, length-append out text);
+        all = ap (λ (j : ℕ). after ++ entries_text (map entry_of (drop j entries))) (add-one i)
             ∙ ap (λ (l : List ℕ). l ++ later) p.stands
-            ∙ append_assoc (take n out) text later
-            ∙ ap (λ (l : List ℕ). take n out ++ entries_text (map entry_of l)) (sym (drop-cons entries i 0 l))
+            ∙ append_assoc out text later
+            ∙ ap (λ (l : List ℕ). out ++ entries_text (map entry_of l)) (sym (drop-cons entries i 0 l))
             ∙ e.all;
       }
 
-  pub entering_done : length entries ≤ i → Puts (32 * length entries) before len (entries_text (map entry_of entries)) n out
+  pub entering_done : i ≡ length entries → Puts (32 * length entries) before (entries_text (map entry_of entries)) out
   unfolding entries_text
-  entering_done l = record {
-    kept = e.kept;
-    few = omega (arith, e.few, e.short);
-    stands =
-        sym (append-nil (take n out))
-        ∙ ap (λ (l : List ℕ). take n out ++ entries_text (map entry_of l)) (sym (drop_of_length-le entries l))
-        ∙ e.all;
-  }
-
--- none, or more
-pub list_none : (entries : List ℕ) → length entries ≡ 0 → ascii "no edge counts, " ≡ list_text (map entry_of entries)
-list_none [] e = refl
-list_none (x ∷ xs) e = let z : ⊥ = omega (arith, e) in absurd z
-
-pub list_some : (entries : List ℕ) → (length entries ≡ 0 → ⊥) → entries_text (map entry_of entries) ≡ list_text (map entry_of entries)
-list_some [] h = absurd (h refl)
-list_some (x ∷ xs) h = refl
+  entering_done l =
+      let text = entries_text (map entry_of entries) in
+      let stands : out ≡ before ++ text =
+      sym (append-nil out) ∙ ap (λ (l : List ℕ). out ++ entries_text (map entry_of l)) (sym (drop_of_length-le entries (omega arith))) ∙ e.all in
+      record { few = omega (arith, e.short, ap length stands, length-append before text); stands = stands }
 
 -- ---- a total, by its digits: from 0 on, and below it
 pub total_whole : (z : ℤ) → le_z (pos 0) z ≡ true → decimal (nat_abs z) ≡ total_text z
 total_whole (pos n) e = refl
-total_whole (negsuc n) e = absurd (let z : ◌≡◌ {A = ℕ} 0 1 = cc in omega arith)
+total_whole (negsuc n) e = never (cc)
 
 pub total_below : (z : ℤ) → le_z (pos 0) z ≡ false → ascii "-" ++ decimal (nat_abs z) ≡ total_text z
 total_below (pos n) e = absurd (let z : ⊥ = omega (arith, leb-false 0 n e) in z)
@@ -172,8 +142,8 @@ border_between k corner e = ap (λ (t : Bool). reason_text (on_border k t)) (sym
 border_same : (reason : Reason (List Entry)) (k : ℕ) (corner : Bool)
     → ◌≡◌ {A = Outcome (Reason ℕ)} (answers (on_border k corner)) (answers (numbered reason)) → on_border k corner ≡ reason
 border_same (on_border m t) k corner e = let same : k ≡ m = cc in let at : corner ≡ t = cc in ap₂ on_border same at
-border_same (is_inside total xs) k corner e = absurd (let z : ◌≡◌ {A = ℕ} 0 1 = cc in omega arith)
-border_same (is_outside total xs) k corner e = absurd (let z : ◌≡◌ {A = ℕ} 0 1 = cc in omega arith)
+border_same (is_inside total xs) k corner e = never (cc)
+border_same (is_outside total xs) k corner e = never (cc)
 
 -- inside or outside, with the entries that stand at the start of the lent room
 abbrev counted_by : {A : Type 0} → Bool → ℤ → A → Reason A
@@ -183,7 +153,8 @@ counted_by false = is_outside
 abbrev stood_by : Reason (List Entry) → List ℕ → List ℕ
 stood_by reason lent = map code (entries_of reason) ++ drop (length (map code (entries_of reason))) lent
 
-entries_stood : (xs : List Entry) (lent : List ℕ) (n : ℕ) → length xs ≡ n → map entry_of (take n (map code xs ++ drop (length (map code xs)) lent)) ≡ xs
+entries_stood : (xs : List Entry) (lent : List ℕ) (n : ℕ) → length xs ≡ n
+    → map entry_of (take n (map code xs ++ drop (length (map code xs)) lent)) ≡ xs
 entries_stood xs lent n e =
     ap (map entry_of) (take_at (map code xs) (drop (length (map code xs)) lent) n (length-map xs code ∙ e)) ∙ entries_of_codes xs
 
@@ -198,14 +169,14 @@ counted_same false (is_outside t xs) lent total n e =
     let same : total ≡ t = cc in
     let many : length xs ≡ n = cc in
     (ap₂ is_outside same (entries_stood xs lent n many), sym many)
-counted_same true (on_border k corner) lent total n e = absurd (let z : ◌≡◌ {A = ℕ} 0 1 = cc in omega arith)
-counted_same true (is_outside t xs) lent total n e = absurd (let z : ◌≡◌ {A = ℕ} 0 1 = cc in omega arith)
-counted_same false (on_border k corner) lent total n e = absurd (let z : ◌≡◌ {A = ℕ} 0 1 = cc in omega arith)
-counted_same false (is_inside t xs) lent total n e = absurd (let z : ◌≡◌ {A = ℕ} 0 1 = cc in omega arith)
+counted_same true (on_border k corner) lent total n e = never (cc)
+counted_same true (is_outside t xs) lent total n e = never (cc)
+counted_same false (on_border k corner) lent total n e = never (cc)
+counted_same false (is_inside t xs) lent total n e = never (cc)
 
 -- of a zone and a point that are not refused, where there is room for an entry of every edge
-module _ (corners : List Float) (p : Point) (zoned : Zoned corners (length corners / 2)) (accepted : Accepted p) (lent left : List ℕ) (r : Why)
-    (room : length lent ≡ most) (says : WhySays corners p lent r left) where
+module _ (corners : List Float) (p : Point) (zoned : Zoned corners (length corners / 2)) (accepted : Accepted p) (lent left : List ℕ)
+    (r : Result Why Refusal) (room : length lent ≡ most) (says : WhySays corners p lent r left) where
   few : length (entries_of (reason_in corners p)) ≤ most
   unfolding reason_in reason_of place_in
   few = go (place_in corners p) (few_entries corners p zoned accepted)
@@ -228,14 +199,15 @@ module _ (corners : List Float) (p : Point) (zoned : Zoned corners (length corne
   stood = says.room ∙ ap (λ (o : Outcome (Reason (List Entry))). lent_after o lent) told
 
   -- nothing is refused
-  pub reason_never : (q : Refusal) → r ≡ Refused q → ⊥
+  pub reason_answers : IsOk r
   unfolding why_said
-  reason_never q e =
-      let no : refuses q.number q.place ≡ answers (numbered (reason_in corners p)) = ap why_said (sym e) ∙ said in
-      let z : ◌≡◌ {A = ℕ} 0 1 = cc in
-      omega arith
+  reason_answers = go r said
+    where
+      go : (q : Result Why Refusal) → why_said q ≡ answers (numbered (reason_in corners p)) → IsOk q
+      go (Ok why) e = refl
+      go (Err q) e = no_refusal e
 
-  pub reason_border : (m : Met) → r ≡ Border m → reason_text (on_border m.edge m.corner) ≡ reason_text (reason_in corners p)
+  pub reason_border : (m : Met) → r ≡ Ok (Border m) → reason_text (on_border m.edge m.corner) ≡ reason_text (reason_in corners p)
   unfolding why_said
   reason_border m e = ap reason_text (border_same (reason_in corners p) m.edge m.corner (ap why_said (sym e) ∙ said))
 
@@ -247,20 +219,20 @@ module _ (corners : List Float) (p : Point) (zoned : Zoned corners (length corne
         omega (arith, same.1, few),
       )
 
-  pub inside_few : (c : Counted) → r ≡ Inside c → c.entries ≤ most
+  pub inside_few : (c : Counted) → r ≡ Ok (Inside c) → c.entries ≤ most
   unfolding why_said
   inside_few c e = (counted true c (ap why_said e)).1
 
-  pub outside_few : (c : Counted) → r ≡ Outside c → c.entries ≤ most
+  pub outside_few : (c : Counted) → r ≡ Ok (Outside c) → c.entries ≤ most
   unfolding why_said
   outside_few c e = (counted false c (ap why_said e)).1
 
-  pub reason_inside : (c : Counted) → r ≡ Inside c
+  pub reason_inside : (c : Counted) → r ≡ Ok (Inside c)
       → ascii " inside: " ++ counted_text c.total (map entry_of (take c.entries left)) ≡ reason_text (reason_in corners p)
   unfolding why_said reason_text
   reason_inside c e = ap reason_text (counted true c (ap why_said e)).0
 
-  pub reason_outside : (c : Counted) → r ≡ Outside c
+  pub reason_outside : (c : Counted) → r ≡ Ok (Outside c)
       → ascii " outside: " ++ counted_text c.total (map entry_of (take c.entries left)) ≡ reason_text (reason_in corners p)
   unfolding why_said reason_text
   reason_outside c e = ap reason_text (counted false c (ap why_said e)).0

@@ -14,11 +14,11 @@ use lib.ListN.{length}
 use lib.Ieee.{Float, nan, binary64, fits}
 use Rattle.whole.specs.Sign.{sgn}
 use Rattle.whole.proofs.Laws.Order.{lt_or_le}
-use Rattle.refusal.specs.Outcome.{Outcome, answers, refuses}
+use Rattle.refusal.specs.Outcome.{Outcome, answers, refuses, kind_number}
 use Rattle.double.specs.Worth.{worth, AllDoubles}
 use Rattle.refusal.specs.declared.Refusal.{Refusal}
 use Rattle.refusal.specs.Judged.{leaves}
-use Rattle.refusal.proofs.Laws.Outcome.{refuses_once, never, no_refusal}
+use Rattle.refusal.proofs.Laws.Outcome.{never, no_refusal, outcome_refused}
 use Rattle.sum.specs.Limit.{limit}
 use Rattle.sum.specs.Refused.{checked, RefusedAs, Accepted}
 use Rattle.sum.specs.Total.{total_of, sign_number}
@@ -26,15 +26,7 @@ use Rattle.sum.specs.Ceiling.{ceiling_of, ceiling_said, ceiling_answer, CeilingS
 use Rattle.sum.specs.Plain.{plain_said, plain_of, PlainSays}
 use Rattle.sum.specs.Run.{ran_from, after, Settles, most_budget, Decision, sign, undecided, decision, Told, told, said, run_of, left_of, RunSays}
 use Rattle.sum.specs.declared.answer.Sign.{Sign}
-use Rattle.sum.specs.declared.answer.Verdict.{Verdict}
-use Rattle.sum.specs.declared.answer.Verdict.TheVariants.{Decided, Undecided}
 use Rattle.sum.specs.declared.answer.Ran.{Ran}
-use Rattle.sum.specs.declared.answer.Run.{Run}
-use Rattle.sum.specs.declared.answer.Run.TheVariants.{Done, Refused}
-use Rattle.sum.specs.declared.answer.Ceiling.{Ceiling}
-use Rattle.sum.specs.declared.answer.Ceiling.TheVariants.{Steps, Refused as CeilingRefused}
-use Rattle.sum.specs.declared.answer.Plain.{Plain}
-use Rattle.sum.specs.declared.answer.Plain.TheVariants.{Signed, Refused as PlainRefused}
 use Rattle.sum.proofs.Laws.Entries.{AllReal, all_of, real_of, real_finite}
 use Rattle.sum.proofs.Laws.Refused.{checked_accepted, checked_answered, checked_refused, refused_checked}
 use Rattle.sum.proofs.Laws.Look.{sign_once}
@@ -42,78 +34,67 @@ use Rattle.sum.proofs.Laws.Sign.{ran_total, ran_sign}
 use Rattle.sum.proofs.Laws.Ceiling.{ceiling_most}
 use Rattle.sum.proofs.Laws.Descent.{ceiling_steps, ceiling_sign}
 use Rattle.sum.proofs.Laws.Settled.{settles, settled_enough, settled_short, settled_steps, settled_left}
+use Rattle.std.specs.Prelude.{Err, None, Ok, Option, Result, Some}
 
 -- ---- which lists are refused
 -- an answer that is refused where the list is, by its number and place
 refused_as : {A R : Type 0} (tells : R → Outcome A) (refusal : Refusal → R) (xs : List Float) (a : A)
-    → ((q : Refusal) → tells (refusal q) ≡ refuses q.number q.place)
-    → ((r : R) (q : Refusal) → tells r ≡ refuses q.number q.place → r ≡ refusal q)
-    → (r : R) → tells r ≡ checked xs a → (q : Refusal) → (r ≡ refusal q) ↔ RefusedAs xs q.number q.place
+    → ((q : Refusal) → tells (refusal q) ≡ refuses (kind_number q.kind) q.place)
+    → ((r : R) (q : Refusal) → tells r ≡ refuses (kind_number q.kind) q.place → r ≡ refusal q)
+    → (r : R) → tells r ≡ checked xs a → (q : Refusal) → (r ≡ refusal q) ↔ RefusedAs xs (kind_number q.kind) q.place
 refused_as tells refusal xs a told only r e q = (
-  λ h. refused_checked xs a q.number q.place (sym e ∙ ap tells h ∙ told q),
-  λ h. only r q (e ∙ checked_refused xs a q.number q.place h),
+  λ h. refused_checked xs a (kind_number q.kind) q.place (sym e ∙ ap tells h ∙ told q),
+  λ h. only r q (e ∙ checked_refused xs a (kind_number q.kind) q.place h),
 )
 
-pub run_refused : (xs ys : List Float) (b : ℕ) (r : Run) → RunSays xs b r ys
-    → (q : Refusal) → (r ≡ Refused q) ↔ RefusedAs xs q.number q.place
+pub run_refused : (xs ys : List Float) (b : ℕ) (r : Result Ran Refusal) → RunSays xs b r ys
+    → (q : Refusal) → (r ≡ Err q) ↔ RefusedAs xs (kind_number q.kind) q.place
 unfolding run_of said
 run_refused xs ys b r p =
-    refused_as said Refused xs (told (ran_from b 0 xs).verdict (ran_from b 0 xs).steps) (λ q. refl) only r p.answer
-  where
-    only : (r : Run) (q : Refusal) → said r ≡ refuses q.number q.place → r ≡ Refused q
-    only (Done r) q e = no_refusal (sym e)
-    only (Refused r) q e = ap Refused (refuses_once r q e)
+    refused_as said Err xs (told (ran_from b 0 xs).verdict (ran_from b 0 xs).steps) (λ q. refl) (outcome_refused (λ r. told r.verdict r.steps)) r p.answer
 
-pub ceiling_refused : (xs : List Float) (r : Ceiling) → CeilingSays xs r
-    → (q : Refusal) → (r ≡ CeilingRefused q) ↔ RefusedAs xs q.number q.place
+pub ceiling_refused : (xs : List Float) (r : Result ℕ Refusal) → CeilingSays xs r
+    → (q : Refusal) → (r ≡ Err q) ↔ RefusedAs xs (kind_number q.kind) q.place
 unfolding ceiling_answer ceiling_said
-ceiling_refused xs r p = refused_as ceiling_said CeilingRefused xs (ceiling_of xs) (λ q. refl) only r p
-  where
-    only : (r : Ceiling) (q : Refusal) → ceiling_said r ≡ refuses q.number q.place → r ≡ CeilingRefused q
-    only (Steps n) q e = no_refusal (sym e)
-    only (CeilingRefused r) q e = ap CeilingRefused (refuses_once r q e)
+ceiling_refused xs r p = refused_as ceiling_said Err xs (ceiling_of xs) (λ q. refl) (outcome_refused (λ n. n)) r p
 
-pub plain_refused : (xs : List Float) (r : Plain) → PlainSays xs r
-    → (q : Refusal) → (r ≡ PlainRefused q) ↔ RefusedAs xs q.number q.place
+pub plain_refused : (xs : List Float) (r : Result Sign Refusal) → PlainSays xs r
+    → (q : Refusal) → (r ≡ Err q) ↔ RefusedAs xs (kind_number q.kind) q.place
 unfolding plain_of plain_said
-plain_refused xs r p = refused_as plain_said PlainRefused xs (sgn (total_of xs)) (λ q. refl) only r p
-  where
-    only : (r : Plain) (q : Refusal) → plain_said r ≡ refuses q.number q.place → r ≡ PlainRefused q
-    only (Signed s) q e = no_refusal (sym e)
-    only (PlainRefused r) q e = ap PlainRefused (refuses_once r q e)
+plain_refused xs r p = refused_as plain_said Err xs (sgn (total_of xs)) (λ q. refl) (outcome_refused sign_number) r p
 
 -- a refused call leaves the list as it was
-pub run_refused_leaves : (xs ys : List Float) (b : ℕ) (q : Refusal) → RunSays xs b (Refused q) ys → ys ≡ xs
+pub run_refused_leaves : (xs ys : List Float) (b : ℕ) (q : Refusal) → RunSays xs b (Err q) ys → ys ≡ xs
 unfolding said left_of
 run_refused_leaves xs ys b q p = p.left ∙ sym (ap (λ (o : Outcome Told). leaves o (λ _. (ran_from b 0 xs).left) xs) p.answer)
 
 -- every other list is answered
 module _ (xs : List Float) (a : Accepted xs) where
-  pub run_answers : (ys : List Float) (b : ℕ) (r : Run) → RunSays xs b r ys → (ran : Ran) × (r ≡ Done ran)
+  pub run_answers : (ys : List Float) (b : ℕ) (r : Result Ran Refusal) → RunSays xs b r ys → (ran : Ran) × (r ≡ Ok ran)
   unfolding run_of said
-  run_answers ys b (Done ran) p = (ran, refl)
-  run_answers ys b (Refused q) p = no_refusal (p.answer ∙ checked_accepted xs _ a)
+  run_answers ys b (Ok ran) p = (ran, refl)
+  run_answers ys b (Err q) p = no_refusal (p.answer ∙ checked_accepted xs _ a)
 
-  pub ceiling_answers : (r : Ceiling) → CeilingSays xs r → r ≡ Steps (ceiling_of xs)
+  pub ceiling_answers : (r : Result ℕ Refusal) → CeilingSays xs r → r ≡ Ok (ceiling_of xs)
   unfolding ceiling_answer ceiling_said
-  ceiling_answers (Steps c) p = let e : answers c ≡ answers (ceiling_of xs) = p ∙ checked_accepted xs _ a in ap Steps cc
-  ceiling_answers (CeilingRefused q) p = no_refusal (p ∙ checked_accepted xs _ a)
+  ceiling_answers (Ok c) p = let e : answers c ≡ answers (ceiling_of xs) = p ∙ checked_accepted xs _ a in ap Ok cc
+  ceiling_answers (Err q) p = no_refusal (p ∙ checked_accepted xs _ a)
 
-  pub plain_answers : (r : Plain) → PlainSays xs r → (s : Sign) × (r ≡ Signed s)
+  pub plain_answers : (r : Result Sign Refusal) → PlainSays xs r → (s : Sign) × (r ≡ Ok s)
   unfolding plain_of plain_said
-  plain_answers (Signed s) p = (s, refl)
-  plain_answers (PlainRefused q) p = no_refusal (p ∙ checked_accepted xs _ a)
+  plain_answers (Ok s) p = (s, refl)
+  plain_answers (Err q) p = no_refusal (p ∙ checked_accepted xs _ a)
 
 -- ---- finite entries of a list of doubles
 accepted_real : (xs : List Float) → AllDoubles xs → Accepted xs → AllReal xs
 accepted_real xs d a = real_of xs a.finite (all_of (λ x. T (fits binary64 x)) xs nan (λ i h. d i))
 
-pub plain_sign : (xs : List Float) (s : Sign) → PlainSays xs (Signed s) → sign_number s ≡ sgn (total_of xs)
+pub plain_sign : (xs : List Float) (s : Sign) → PlainSays xs (Ok s) → sign_number s ≡ sgn (total_of xs)
 unfolding plain_of plain_said
 plain_sign xs s p = sym (checked_answered xs (sgn (total_of xs)) (sym p)).1
 
 -- ---- an answered run
-module _ (xs ys : List Float) (b : ℕ) (r : Ran) (d : AllDoubles xs) (p : RunSays xs b (Done r) ys) where
+module _ (xs ys : List Float) (b : ℕ) (r : Ran) (d : AllDoubles xs) (p : RunSays xs b (Ok r) ys) where
   answered : Accepted xs × (told (ran_from b 0 xs).verdict (ran_from b 0 xs).steps ≡ told r.verdict r.steps)
   unfolding run_of said
   answered = checked_answered xs (told (ran_from b 0 xs).verdict (ran_from b 0 xs).steps) (sym p.answer)
@@ -140,17 +121,17 @@ module _ (xs ys : List Float) (b : ℕ) (r : Ran) (d : AllDoubles xs) (p : RunSa
   run_total = ap total_of left_is ∙ ran_total b xs real
 
   -- a sign is that of the exact sum
-  pub run_sign : (s : Sign) → r.verdict ≡ Decided s → sign_number s ≡ sgn (total_of xs)
+  pub run_sign : (s : Sign) → r.verdict ≡ Some s → sign_number s ≡ sgn (total_of xs)
   run_sign s e = go (ran_from b 0 xs).verdict refl (sym (ap decision e) ∙ verdict_is)
     where
-      go : (v : Verdict) → (ran_from b 0 xs).verdict ≡ v → sign (sign_number s) ≡ decision v → sign_number s ≡ sgn (total_of xs)
-      go (Decided t) v q = let same : sign_number s ≡ sign_number t = cc in same ∙ ran_sign b xs real t (le_trans run_accepted.short (lit≤ tt)) v
-      go Undecided v q = never (cc)
+      go : (v : Option Sign) → (ran_from b 0 xs).verdict ≡ v → sign (sign_number s) ≡ decision v → sign_number s ≡ sgn (total_of xs)
+      go (Some t) v q = let same : sign_number s ≡ sign_number t = cc in same ∙ ran_sign b xs real t (le_trans run_accepted.short (lit≤ tt)) v
+      go None v q = never (cc)
 
   -- ---- the ceiling
-  module _ (c : ℕ) (q : CeilingSays xs (Steps c)) where
+  module _ (c : ℕ) (q : CeilingSays xs (Ok c)) where
     ceiling_is : c ≡ ceiling_of xs
-    ceiling_is = let e : Steps c ≡ Steps (ceiling_of xs) = ceiling_answers xs run_accepted (Steps c) q in cc
+    ceiling_is = let e : Ok c ≡ Ok (ceiling_of xs) = ceiling_answers xs run_accepted (Ok c) q in cc
 
     -- no run takes more steps than the ceiling
     pub run_steps : r.steps ≤ c
@@ -172,26 +153,26 @@ module _ (xs ys : List Float) (b : ℕ) (r : Ran) (d : AllDoubles xs) (p : RunSa
     run_leaves = left_is ∙ settled_left xs n z b
 
     -- a run is undecided where, and only where, the rule is after budget steps
-    pub run_undecided : (r.verdict ≡ Undecided) ↔ (b < n)
+    pub run_undecided : (r.verdict ≡ None) ↔ (b < n)
     run_undecided = (λ u. short u (lt_or_le b n), λ h. only r.verdict (verdict_is ∙ ap decision (settled_short xs n z b h).1))
       where
-        short : r.verdict ≡ Undecided → (b < n) ⊎ (n ≤ b) → b < n
+        short : r.verdict ≡ None → (b < n) ⊎ (n ≤ b) → b < n
         short u (inl h) = h
         short u (inr h) =
             let (s, e) = (settled_enough xs n z b h).1 in
             let f : undecided ≡ sign (sign_number s) = sym (ap decision u) ∙ verdict_is ∙ ap decision e in
             never (cc)
 
-        only : (v : Verdict) → decision v ≡ undecided → v ≡ Undecided
-        only (Decided s) e = never (cc)
-        only Undecided e = refl
+        only : (v : Option Sign) → decision v ≡ undecided → v ≡ None
+        only (Some s) e = never (cc)
+        only None e = refl
 
   -- ---- the plain sum's sign is the same
-  pub run_plain : (s t : Sign) → r.verdict ≡ Decided s → PlainSays xs (Signed t) → s ≡ t
+  pub run_plain : (s t : Sign) → r.verdict ≡ Some s → PlainSays xs (Ok t) → s ≡ t
   run_plain s t e q = sign_once s t (run_sign s e ∙ sym (plain_sign xs t q))
 
 -- ---- every list that is answered has a number of steps that settles it, at most the ceiling
-pub settles_within : (xs : List Float) (c : ℕ) → AllDoubles xs → CeilingSays xs (Steps c) → (n : ℕ) × Settles xs n × (n ≤ c)
+pub settles_within : (xs : List Float) (c : ℕ) → AllDoubles xs → CeilingSays xs (Ok c) → (n : ℕ) × Settles xs n × (n ≤ c)
 unfolding ceiling_answer ceiling_said
 settles_within xs c d q =
     let (a, same) = checked_answered xs (ceiling_of xs) (sym q) in
@@ -226,6 +207,6 @@ settled_told xs a short =
     )
 
 -- what an answered run tells, for callers that go by the answer
-pub run_told : (xs ys : List Float) (b : ℕ) (r : Ran) → RunSays xs b (Done r) ys → run_of xs b ≡ answers (told r.verdict r.steps)
+pub run_told : (xs ys : List Float) (b : ℕ) (r : Ran) → RunSays xs b (Ok r) ys → run_of xs b ≡ answers (told r.verdict r.steps)
 unfolding said
 run_told xs ys b r p = sym p.answer

@@ -5,12 +5,12 @@ use mathlib.Core.Path.{◌≡◌, refl, sym, ap, ap₂, ◌∙◌}
 use mathlib.Core.Logic.{◌⊎◌, inl, inr}
 use mathlib.Core.List.{List, [], ◌∷◌}
 use Prim.Native.Nat.{ℕ, zero, suc, ◌+◌, ◌-◌, ◌*◌, ◌/◌, ◌^◌, ◌≤◌, ◌<◌, zero-le}
-use native.Mathlib.Nat.{le_refl, le_trans, le_of_eq, lt_of_lt_of_le, lt_of_le_of_lt, le_antisymm, le-div_iff_mul-le, zero-lt-suc, eq-zero-or-pos}
+use native.Mathlib.Nat.{le_trans, le_of_eq, lt_of_lt_of_le, lt_of_le_of_lt, le_antisymm, le-div_iff_mul-le, zero-lt-suc, eq-zero-or-pos}
 use native.Mathlib.Nat.{add-zero, add_comm, mul-one, pow-suc, zero-sub, sub-eq-zero_of_le}
 use native.Mathlib.Omega.{arith}
 use lib.Count.{count_leading_zeros, leading_length}
 use lib.Dec.{lit≤, lit<}
-use lib.ListN.{length, drop, get_or, drop_of_length-le}
+use lib.ListN.{length, get_or}
 use lib.Pow.{pow-add, pow_pos, pow-lt, pow_mono, shr_lt, shr_le}
 use lib.Ieee.{Float, nan, binary64, size}
 use lib.Ieee.Digits.{size-lt, size_reaches, size-le}
@@ -22,17 +22,15 @@ use Rattle.double.proofs.Laws.Digits.{size_gt, size_mono, size_scale}
 use Rattle.double.proofs.Laws.Units.{Real, mag_lt}
 use Rattle.double.proofs.Laws.Sized.{Sized}
 use Rattle.double.proofs.Laws.Apart.{Means}
-use Rattle.refusal.proofs.Laws.Outcome.{refuses_once}
+use Rattle.refusal.proofs.Laws.Outcome.{outcome_once}
 use Rattle.sum.specs.Limit.{limit, divisor}
 use Rattle.sum.specs.Parts.{found, fault_of}
 use Rattle.sum.specs.Ceiling.{digits, grain_of, round_up, weight_of, ceiling_of, ceiling_said, ceiling_answer, CeilingSays}
-use Rattle.sum.specs.declared.fault.Fault.TheVariants.{None, At}
-use Rattle.sum.specs.declared.answer.Ceiling.{Ceiling}
-use Rattle.sum.specs.declared.answer.Ceiling.TheVariants.{Steps, Refused}
 use Rattle.sum.proofs.Laws.Refused.{checked_none, checked_at}
 use Rattle.sum.proofs.Laws.Entries.{All, AllReal, all_map}
-use Rattle.sum.proofs.Laws.Grain.{parts_mag, drop_before, grain_greatest}
+use Rattle.sum.proofs.Laws.Grain.{parts_mag, grain_greatest}
 use Rattle.sum.proofs.Laws.RoundUp.{round_mono}
+use Rattle.std.specs.Prelude.{Err, Ok, Result}
 
 -- ---- bit lengths
 -- what is divided by 2 ^ j has j digits fewer
@@ -99,11 +97,14 @@ share_most = round_up divisor digits
 pub length_most : (x : Float) (j : ℕ) → Real binary64 x → size (mag binary64 x / 2 ^ j) ≤ digits
 length_most x j r = le_trans (size_mono (shr_le (mag binary64 x) j)) (size-le (mag binary64 x) digits (mag_lt binary64 x r))
 
-pub share_most_lem : (x : Float) (j : ℕ) → Real binary64 x → round_up divisor (size (mag binary64 x / 2 ^ j)) ≤ share_most
+share_most_lem : (x : Float) (j : ℕ) → Real binary64 x → round_up divisor (size (mag binary64 x / 2 ^ j)) ≤ share_most
 share_most_lem x j r = rounded (size (mag binary64 x / 2 ^ j)) (length_most x j r)
   where
     rounded : (z : ℕ) → z ≤ digits → round_up divisor z ≤ share_most
     rounded z h = omega arith
+
+pub share_low : (x : Float) (j : ℕ) → Real binary64 x → {r : ℕ} → r ≡ round_up divisor (size (mag binary64 x / 2 ^ j)) → r ≤ share_most
+share_low x j r e = le_trans (le_of_eq e) (share_most_lem x j r)
 
 -- entries of at most c digits over 2 ^ j units: c divided and rounded up, for each
 weight_most : (d j c : ℕ) → 0 < d → (xs : List Float) → All (λ x. size (mag binary64 x / 2 ^ j) ≤ c) xs
@@ -183,35 +184,27 @@ module _ (g b : ℕ) (l : g ≤ b) where
   ]
 
 -- ---- the second pass, from the list's end
-pub weight_end : (d j : ℕ) (xs : List Float) → 0 ≡ weight_of d j (drop (length xs) xs)
+pub weight_none : (d j : ℕ) → 0 ≡ weight_of d j []
 unfolding weight_of
-weight_end d j xs = sym (ap (weight_of d j) (drop_of_length-le xs (le_refl (length xs))))
+weight_none d j = refl
 
-pub weight_turn : (d j : ℕ) (xs : List Float) (i : ℕ) → 0 < i → i ≤ length xs
-    → weight_of d j (drop i xs) + round_up d (size (mag binary64 (get_or xs (i - 1) nan) / 2 ^ j)) ≡ weight_of d j (drop (i - 1) xs)
+pub weight_cons : (d j : ℕ) (x : Float) (xs : List Float)
+    → weight_of d j xs + round_up d (size (mag binary64 x / 2 ^ j)) ≡ weight_of d j (x ∷ xs)
 unfolding weight_of
-weight_turn d j xs i p h =
-    add_comm (weight_of d j (drop i xs)) (round_up d (size (mag binary64 (get_or xs (i - 1) nan) / 2 ^ j)))
-    ∙ ap (weight_of d j) (sym (drop_before xs i p h))
+weight_cons d j x xs = add_comm (weight_of d j xs) (round_up d (size (mag binary64 x / 2 ^ j)))
 
 -- ---- the answer
-pub ceiling_refused : (xs : List Float) (r : Refusal) → found (At r) ≡ fault_of xs → CeilingSays xs (Refused r)
+pub ceiling_refused : (xs : List Float) (r : Refusal) → found (Err r) ≡ fault_of xs → CeilingSays xs (Err r)
 unfolding ceiling_said ceiling_answer
 ceiling_refused xs r h = sym (checked_at (ceiling_of xs) xs r h)
 
-pub ceiling_measured : (xs : List Float) (j w : ℕ) → found None ≡ fault_of xs → j ≡ grain_of xs → w ≡ weight_of divisor j xs
-    → CeilingSays xs (Steps w)
+pub ceiling_measured : (xs : List Float) (j w : ℕ) → found (Ok tt) ≡ fault_of xs → j ≡ grain_of xs → w ≡ weight_of divisor j xs
+    → CeilingSays xs (Ok w)
 unfolding ceiling_said ceiling_answer ceiling_of
 ceiling_measured xs j w h g e =
     ap answers (e ∙ ap (λ (k : ℕ). weight_of divisor k xs) g) ∙ sym (checked_none (ceiling_of xs) xs h)
 
 -- no two results satisfy the promise
-said_once : (a b : Ceiling) → ceiling_said a ≡ ceiling_said b → a ≡ b
+pub ceiling_fixed : (xs : List Float) → Fixes (λ (r : Result ℕ Refusal). CeilingSays xs r)
 unfolding ceiling_said
-said_once (Steps m) (Steps n) e = cc
-said_once (Steps m) (Refused r) e = cc
-said_once (Refused r) (Steps n) e = cc
-said_once (Refused r) (Refused q) e = ap Refused (refuses_once r q e)
-
-pub ceiling_fixed : (xs : List Float) → Fixes (λ (r : Ceiling). CeilingSays xs r)
-ceiling_fixed xs a b p q = said_once a b (p ∙ sym q)
+ceiling_fixed xs a b p q = outcome_once (λ n. n) (λ m n e. e) a b (p ∙ sym q)

@@ -26,8 +26,6 @@ use Rattle.sum.specs.Total.{total_of}
 use Rattle.sum.specs.Run.{ran_from, decision, sign}
 use Rattle.sum.specs.Ceiling.{grain_of, round_up, weight_of, ceiling_of}
 use Rattle.sum.specs.declared.answer.Sign.{Sign}
-use Rattle.sum.specs.declared.answer.Verdict.{Verdict}
-use Rattle.sum.specs.declared.answer.Verdict.TheVariants.{Decided, Undecided}
 use Rattle.sum.proofs.Laws.Entries.{All, AllReal, all_at, all_set, sum_of}
 use Rattle.sum.proofs.Laws.Extremes.{extreme}
 use Rattle.sum.proofs.Laws.Verdict.{undecided_open}
@@ -37,6 +35,7 @@ use Rattle.sum.proofs.Laws.Runs.{ran_verdict, ran_spent, ran_keeps}
 use Rattle.sum.proofs.Laws.Sign.{ran_sign}
 use Rattle.sum.proofs.Laws.Grain.{grain_divides}
 use Rattle.sum.proofs.Laws.RoundUp.{round_mono, round_drops, round_zero, round_some}
+use Rattle.std.specs.Prelude.{None, Option, Some}
 
 -- ---- digits
 size_zero : size 0 ≡ 0
@@ -95,7 +94,7 @@ module _ (j : ℕ) (xs : List Float) (a : AllReal xs) (g : Grained j xs) where
       subst (λ (x : Float). 2 ^ j ∣ mag binary64 x) (r.entry plus0 h)
       (all_at (λ x. 2 ^ j ∣ mag binary64 x) xs (index_of s xs) plus0 g (r.inside h))
 
-  pub step_grained : verdict_of xs ≡ Undecided → Grained j (step_of xs)
+  pub step_grained : verdict_of xs ≡ None → Grained j (step_of xs)
   step_grained e =
       let o = undecided_open xs e in
       let (u, v, w) = step_cases xs e a in
@@ -105,7 +104,7 @@ module _ (j : ℕ) (xs : List Float) (a : AllReal xs) (g : Grained j xs) where
       (all_set P (set xs (index_of false xs) u) (index_of true xs) v (all_set P xs (index_of false xs) u g du) dv)
 
   -- a list of at most 2 ^ k entries weighs less after a step
-  pub step_weight : (k : ℕ) → k < prec binary64 → length xs ≤ 2 ^ k → verdict_of xs ≡ Undecided
+  pub step_weight : (k : ℕ) → k < prec binary64 → length xs ≤ 2 ^ k → verdict_of xs ≡ None
       → weight_of (prec binary64 - k) j (step_of xs) + 1 ≤ weight_of (prec binary64 - k) j xs
   step_weight k K l e =
       let d = prec binary64 - k in
@@ -179,7 +178,7 @@ module _ (k j : ℕ) (K : k < prec binary64) where
         least s i w h = omega arith
 
     -- with a budget of the ceiling or more a run decides
-    pub ran_decides : weight_of (prec binary64 - k) j xs ≤ b → (s : Sign) × ((ran_from b 0 xs).verdict ≡ Decided s)
+    pub ran_decides : weight_of (prec binary64 - k) j xs ≤ b → (s : Sign) × ((ran_from b 0 xs).verdict ≡ Some s)
     ran_decides h = go (ran_from b 0 xs).verdict refl
       where
         ys : List Float
@@ -189,16 +188,16 @@ module _ (k j : ℕ) (K : k < prec binary64) where
         spent s t i w f g e h = omega arith
 
         -- undecided, the whole budget is spent, and nothing is left for a further step to take away
-        never : (ran_from b 0 xs).verdict ≡ Undecided → ⊥
+        never : (ran_from b 0 xs).verdict ≡ None → ⊥
         never e =
             let r = falls b xs a l g in
             spent (weight_of (prec binary64 - k) j (step_of ys)) (weight_of (prec binary64 - k) j ys) (ran_from b 0 xs).steps
             (weight_of (prec binary64 - k) j xs)
             (step_weight j ys r.real r.grained k K r.short (sym (ran_verdict b xs) ∙ e)) r.weight (ran_spent b xs e) h
 
-        go : (v : Verdict) → (ran_from b 0 xs).verdict ≡ v → (s : Sign) × ((ran_from b 0 xs).verdict ≡ Decided s)
-        go (Decided s) e = (s, e)
-        go Undecided e = absurd (never e)
+        go : (v : Option Sign) → (ran_from b 0 xs).verdict ≡ v → (s : Sign) × ((ran_from b 0 xs).verdict ≡ Some s)
+        go (Some s) e = (s, e)
+        go None e = absurd (never e)
 
 -- ---- the ceiling
 
@@ -209,7 +208,7 @@ module _ (budget : ℕ) (xs : List Float) (a : AllReal xs) (short : length xs �
   ceiling_steps = ran_steps power (grain_of xs) (lit< tt) budget xs a short (grain_divides xs)
 
   -- a budget that is no less is enough
-  pub ceiling_enough : ceiling_of xs ≤ budget → (s : Sign) × ((ran_from budget 0 xs).verdict ≡ Decided s)
+  pub ceiling_enough : ceiling_of xs ≤ budget → (s : Sign) × ((ran_from budget 0 xs).verdict ≡ Some s)
   unfolding ceiling_of
   ceiling_enough = ran_decides power (grain_of xs) (lit< tt) budget xs a short (grain_divides xs)
 

@@ -13,8 +13,7 @@ use native.Mathlib.Omega.{arith}
 use lib.Count.{count_trailing_zeros, under, trailing_of_zero}
 use lib.Dec.{T, eqb, lit≤}
 use lib.IntN.{pos, neg_ℤ, nat_abs}
-use lib.ListN.{length, drop, get_or, drop_of_length-le}
-use lib.Seq.{drop-cons}
+use lib.ListN.{length, get_or}
 use lib.Pow.{pow-add, pow_pos, pow_mono}
 use lib.Ieee.{Float, nan, inf, fin, binary64}
 use lib.Ieee.Scale.{finite}
@@ -23,16 +22,15 @@ use Rattle.double.specs.Worth.{mag}
 use Rattle.refusal.specs.Outcome.{answers}
 use Rattle.double.specs.Apart.{said, apart_of}
 use Rattle.refusal.specs.declared.Refusal.{Refusal}
+use Rattle.refusal.proofs.Laws.Outcome.{never}
 use Rattle.double.specs.declared.answer.Parts.{Parts}
-use Rattle.double.specs.declared.answer.Taken.{Taken}
-use Rattle.double.specs.declared.answer.Taken.TheVariants.{Apart, Refused}
 use Rattle.double.proofs.Laws.Digits.{dvd_lower}
 use Rattle.double.proofs.Laws.Units.{Real, mag_lt}
 use Rattle.double.proofs.Laws.Worth.{worth_nat_abs}
 use Rattle.double.proofs.Laws.Apart.{Means}
-use Rattle.sum.specs.Refused.{AllFinite}
 use Rattle.sum.specs.Ceiling.{digits, grain_of}
 use Rattle.sum.proofs.Laws.Entries.{All, AllReal, all_at}
+use Rattle.std.specs.Prelude.{Err, Ok, Result, IsOk}
 
 -- ---- zeros at a number's end
 trailing_dvd : (k n : ℕ) → 2 ^ count_trailing_zeros k n ∣ n
@@ -109,7 +107,7 @@ grain_most (x ∷ xs) = go (eqb (mag binary64 x) 0) (grain_most xs)
     go false h = le_trans (min-le_right (count_trailing_zeros digits (mag binary64 x)) (grain_of xs)) h
 
 -- a zero's grain is no less than any other
-grain_cons : (x : Float) (xs : List Float) → grain_of (x ∷ xs) ≡ min (count_trailing_zeros digits (mag binary64 x)) (grain_of xs)
+pub grain_cons : (x : Float) (xs : List Float) → grain_of (x ∷ xs) ≡ min (count_trailing_zeros digits (mag binary64 x)) (grain_of xs)
 unfolding grain_of
 grain_cons x xs = go (eqb (mag binary64 x) 0) refl
   where
@@ -154,15 +152,17 @@ grain_greatest xs j r a i h N =
 
 -- ---- the grain of one entry, by its parts
 -- a finite double has parts, and is not refused
-pub parts_taken : (x : Float) (t : Taken) (p : Parts) → t ≡ Apart p → said t ≡ apart_of x → apart_of x ≡ answers p
+pub parts_taken : (x : Float) (t : Result Parts Refusal) (p : Parts) → t ≡ Ok p → said t ≡ apart_of x → apart_of x ≡ answers p
 unfolding said
 parts_taken x t p e h = sym h ∙ ap said e
 
-pub parts_not_refused : (x : Float) (t : Taken) (r : Refusal) → T (finite x) → t ≡ Refused r → said t ≡ apart_of x → ⊥
+-- a finite double is not refused
+pub parts_answered : (x : Float) (t : Result Parts Refusal) → T (finite x) → said t ≡ apart_of x → IsOk t
 unfolding said apart_of
-parts_not_refused nan t r f e h = absurd f
-parts_not_refused (inf s) t r f e h = absurd f
-parts_not_refused (fin s m k) t r f e h = let z : ◌≡◌ {A = ℕ} 0 1 = cc in omega arith
+parts_answered x (Ok p) f h = refl
+parts_answered nan (Err r) f h = absurd f
+parts_answered (inf s) (Err r) f h = absurd f
+parts_answered (fin s m k) (Err r) f h = never (cc)
 
 pub parts_mag : (x : Float) (p : Parts) → Means x p → mag binary64 x ≡ p.significand * 2 ^ p.exponent
 parts_mag x p m = sym (worth_nat_abs x) ∙ ap nat_abs m.worth_is ∙ either p.negative (p.significand * 2 ^ p.exponent)
@@ -189,22 +189,7 @@ module _ (x : Float) (p : Parts) (means : Means x p) where
       room : 53 + p.exponent ≤ digits
       room = omega (arith, means.exponent_range)
 
--- ---- the first pass, from the list's end
-pub drop_before : (xs : List Float) (i : ℕ) → 0 < i → i ≤ length xs → drop (i - 1) xs ≡ get_or xs (i - 1) nan ∷ drop i xs
-drop_before xs i p h =
-    let inside : i - 1 < length xs = omega arith in
-    let next : suc (i - 1) ≡ i = omega arith in
-    drop-cons xs (i - 1) nan inside ∙ ap (λ (k : ℕ). get_or xs (i - 1) nan ∷ drop k xs) next
-
-pub finite_at : (xs : List Float) (i : ℕ) → AllFinite xs → i < length xs → T (finite (get_or xs i nan))
-finite_at [] i a h = absurd (omega arith)
-finite_at (x ∷ xs) zero a h = a.0
-finite_at (x ∷ xs) (suc i) a h = finite_at xs i a.1 (omega arith)
-
-pub grain_end : (xs : List Float) → digits ≡ grain_of (drop (length xs) xs)
+-- ---- where the first pass begins
+pub grain_none : digits ≡ grain_of []
 unfolding grain_of
-grain_end xs = sym (ap grain_of (drop_of_length-le xs (le_refl (length xs))))
-
-pub grain_turn : (xs : List Float) (i : ℕ) → 0 < i → i ≤ length xs
-    → min (count_trailing_zeros digits (mag binary64 (get_or xs (i - 1) nan))) (grain_of (drop i xs)) ≡ grain_of (drop (i - 1) xs)
-grain_turn xs i p h = sym (ap grain_of (drop_before xs i p h) ∙ grain_cons (get_or xs (i - 1) nan) (drop i xs))
+grain_none = refl

@@ -19,7 +19,7 @@ use Rattle.whole.specs.Sign.{sgn}
 use Rattle.whole.proofs.Laws.Parts.{up, dn, up_neg, dn_neg, add_parts, ≡_parts}
 use Rattle.whole.proofs.Laws.Sign.{sgn_nat_positive, sgn_nat_zero, sgn_nat_negative}
 use Rattle.refusal.specs.Outcome.{Fixes}
-use Rattle.refusal.proofs.Laws.Outcome.{refuses_once}
+use Rattle.refusal.proofs.Laws.Outcome.{outcome_once}
 use Rattle.double.specs.Worth.{sign_bit, mag, worth}
 use Rattle.double.proofs.Laws.Units.{Real, mag_lt}
 use Rattle.double.proofs.Laws.Worth.{worth_up, worth_dn}
@@ -32,8 +32,9 @@ use Rattle.sum.specs.Plain.{plain_said, PlainSays}
 use Rattle.sum.specs.Words.{half, sign_held}
 use Rattle.sum.proofs.Laws.Look.{sign_once}
 use Rattle.sum.specs.declared.answer.Sign.TheVariants.{Minus, Zero, Plus}
-use Rattle.sum.specs.declared.answer.Plain.{Plain}
-use Rattle.sum.specs.declared.answer.Plain.TheVariants.{Signed, Refused}
+use Rattle.refusal.specs.declared.Refusal.{Refusal}
+use Rattle.sum.specs.declared.answer.Sign.{Sign}
+use Rattle.std.specs.Prelude.{Result}
 
 -- ---- the entries done so far
 -- no entry has as many units. Shut, as the modulus is.
@@ -187,12 +188,6 @@ held_sign xs i ws h l b r =
     no_rest u d v e x y h a b = omega arith
 
 -- ---- no two results satisfy the promise
-said_once : (a b : Plain) → plain_said a ≡ plain_said b → a ≡ b
+pub plain_fixed : (xs : List Float) → Fixes (λ (r : Result Sign Refusal). PlainSays xs r)
 unfolding plain_said
-said_once (Signed r) (Signed s) e = ap Signed (sign_once r s cc)
-said_once (Signed r) (Refused q) e = cc
-said_once (Refused q) (Signed s) e = cc
-said_once (Refused q) (Refused r) e = ap Refused (refuses_once q r e)
-
-pub plain_fixed : (xs : List Float) → Fixes (λ (r : Plain). PlainSays xs r)
-plain_fixed xs a b p q = said_once a b (p ∙ sym q)
+plain_fixed xs a b p q = outcome_once sign_number sign_once a b (p ∙ sym q)

@@ -1,7 +1,6 @@
--- Which lists are refused. In order: a double is finite by two comparisons; the two tests in their order; a list that is not refused; with
--- which number and place a list is refused, both ways; what the end of the search for a fault says of every answer. Assumes nothing.
-use mathlib.Core.Path.{◌≡◌, refl, sym, ap₂, ◌∙◌, subst}
-use mathlib.Core.Bool.{true, false}
+-- Which lists are refused. In order: the two tests in their order; a list that is not refused; with which number and place a list is refused,
+-- both ways; what the end of the search for a fault says of every answer. Assumes nothing.
+use mathlib.Core.Path.{◌≡◌, sym, ap₂, ◌∙◌, subst}
 use mathlib.Core.List.{List, [], ◌∷◌}
 use mathlib.Core.Logic.{inl, inr}
 use Prim.Native.Nat.{ℕ, zero, suc, ◌≤◌, ◌<◌}
@@ -9,34 +8,19 @@ use native.Mathlib.Nat.{zero-add}
 use native.Mathlib.Omega.{arith}
 use lib.Dec.{T, leb}
 use lib.ListN.{length}
-use lib.Ieee.{Float, nan, inf, fin, lt}
+use lib.Ieee.{Float, nan}
 use lib.Ieee.Bits.{is_true}
 use lib.Ieee.Scale.{finite}
 use borrow.Author.Tests.{le-leb, lt-leb, leb-true, leb-false}
 use Rattle.refusal.specs.declared.Refusal.{Refusal}
-use Rattle.refusal.specs.Outcome.{answers, refuses, too_many, not_finite}
+use Rattle.refusal.specs.Outcome.{answers, refuses, too_many, not_finite, kind_number}
 use Rattle.refusal.specs.Search.{AllPass, IsFirst}
 use Rattle.refusal.proofs.Laws.Judged.{require_holds, require_fails, require_answered, require_refused}
 use Rattle.refusal.proofs.Laws.Search.{passing_whole, passing_answered, passing_first, passing_refused}
 use Rattle.sum.specs.Limit.{limit}
 use Rattle.sum.specs.Refused.{checked_from, checked, RefusedAs, AllFinite, Accepted}
 use Rattle.sum.specs.Parts.{found, fault_of}
-use Rattle.sum.specs.declared.fault.Fault.TheVariants.{None, At}
-
--- ---- finite: below infinity and above minus infinity
-pub finite_below : (x : Float) → lt x (inf false) ≡ true → lt (inf true) x ≡ finite x
-unfolding lt
-finite_below nan h = refl
-finite_below (inf true) h = refl
-finite_below (inf false) h = sym h
-finite_below (fin s m e) h = refl
-
-pub finite_not_below : (x : Float) → lt x (inf false) ≡ false → false ≡ finite x
-unfolding lt
-finite_not_below nan h = refl
-finite_not_below (inf true) h = refl
-finite_not_below (inf false) h = refl
-finite_not_below (fin s m e) h = sym h
+use Rattle.std.specs.Prelude.{Err, Ok}
 
 -- every entry is finite, by its index
 finite_pass : (xs : List Float) → AllFinite xs → AllPass finite nan xs
@@ -86,14 +70,14 @@ module _ {A : Type 0} (xs : List Float) (answer : A) where
   ]
 
 -- ---- what a search that is over says
-pub fault_none : (xs : List Float) → found None ≡ fault_of xs → Accepted xs
+pub fault_none : (xs : List Float) → found (Ok tt) ≡ fault_of xs → Accepted xs
 unfolding found
 fault_none xs h = (checked_answered xs tt (sym h)).0
 
 module _ {A : Type 0} (a : A) where
-  pub checked_none : (xs : List Float) → found None ≡ fault_of xs → checked xs a ≡ answers a
+  pub checked_none : (xs : List Float) → found (Ok tt) ≡ fault_of xs → checked xs a ≡ answers a
   checked_none xs h = checked_accepted xs a (fault_none xs h)
 
-  pub checked_at : (xs : List Float) (r : Refusal) → found (At r) ≡ fault_of xs → checked xs a ≡ refuses r.number r.place
+  pub checked_at : (xs : List Float) (r : Refusal) → found (Err r) ≡ fault_of xs → checked xs a ≡ refuses (kind_number r.kind) r.place
   unfolding found
-  checked_at xs r h = checked_refused xs a r.number r.place (refused_checked xs tt r.number r.place (sym h))
+  checked_at xs r h = checked_refused xs a (kind_number r.kind) r.place (refused_checked xs tt (kind_number r.kind) r.place (sym h))

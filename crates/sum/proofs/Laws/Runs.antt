@@ -12,20 +12,19 @@ use Rattle.sum.specs.Look.{verdict_of}
 use Rattle.sum.specs.Step.{step_of}
 use Rattle.sum.specs.Run.{Reached, reached, ran_from, after}
 use Rattle.sum.specs.declared.answer.Sign.{Sign}
-use Rattle.sum.specs.declared.answer.Verdict.{Verdict}
-use Rattle.sum.specs.declared.answer.Verdict.TheVariants.{Decided, Undecided}
+use Rattle.std.specs.Prelude.{None, Option, Some}
 
 -- ---- the turns
 
 -- a turn where the look says v
-abbrev turn : Verdict → ℕ → ℕ → List Float → Reached
-turn v more k xs = elim v [ Decided s ↦ reached (Decided s) k xs | Undecided ↦ ran_from more (k + 1) (step_of xs) ]
+abbrev turn : Option Sign → ℕ → ℕ → List Float → Reached
+turn v more k xs = elim v [ Some s ↦ reached (Some s) k xs | None ↦ ran_from more (k + 1) (step_of xs) ]
 
 -- decided: the list stays, whatever is left of the budget
-pub ran_decided : (more k : ℕ) (xs : List Float) (s : Sign) → verdict_of xs ≡ Decided s → ran_from more k xs ≡ reached (Decided s) k xs
+pub ran_decided : (more k : ℕ) (xs : List Float) (s : Sign) → verdict_of xs ≡ Some s → ran_from more k xs ≡ reached (Some s) k xs
 unfolding ran_from
-ran_decided zero k xs s e = ap (λ (v : Verdict). reached v k xs) e
-ran_decided (suc more) k xs s e = ap (λ (v : Verdict). turn v more k xs) e
+ran_decided zero k xs s e = ap (λ (v : Option Sign). reached v k xs) e
+ran_decided (suc more) k xs s e = ap (λ (v : Option Sign). turn v more k xs) e
 
 -- the budget is spent: the look's verdict, and the list stays
 pub ran_out : (more k : ℕ) (xs : List Float) → more ≡ 0 → ran_from more k xs ≡ reached (verdict_of xs) k xs
@@ -33,10 +32,10 @@ unfolding ran_from
 ran_out more k xs e = ap (λ (n : ℕ). ran_from n k xs) e
 
 -- a step
-pub ran_step : (more rest k : ℕ) (xs : List Float) → verdict_of xs ≡ Undecided → more ≡ rest + 1
+pub ran_step : (more rest k : ℕ) (xs : List Float) → verdict_of xs ≡ None → more ≡ rest + 1
     → ran_from more k xs ≡ ran_from rest (k + 1) (step_of xs)
 unfolding ran_from
-ran_step more rest k xs e h = ap (λ (n : ℕ). ran_from n k xs) (h ∙ add-one rest) ∙ ap (λ (v : Verdict). turn v rest k xs) e
+ran_step more rest k xs e h = ap (λ (n : ℕ). ran_from n k xs) (h ∙ add-one rest) ∙ ap (λ (v : Option Sign). turn v rest k xs) e
 
 -- ---- where a run ends
 
@@ -46,8 +45,8 @@ record Ends (b k : ℕ) (xs : List Float) (r : Reached) (n : ℕ) : Type 0 where
   count : r.steps ≡ k + n
   list : r.left ≡ after n xs
   look : r.verdict ≡ verdict_of (after n xs)
-  before : (i : ℕ) → i < n → verdict_of (after i xs) ≡ Undecided
-  spent : r.verdict ≡ Undecided → n ≡ b
+  before : (i : ℕ) → i < n → verdict_of (after i xs) ≡ None
+  spent : r.verdict ≡ None → n ≡ b
 
 ends : (b k : ℕ) (xs : List Float) → (n : ℕ) × Ends b k xs (ran_from b k xs) n
 unfolding ran_from after
@@ -64,14 +63,14 @@ ends zero k xs = (
 )
 ends (suc b) k xs = go (verdict_of xs) refl (ends b (k + 1) (step_of xs))
   where
-    first : (n : ℕ) → verdict_of xs ≡ Undecided → ((i : ℕ) → i < n → verdict_of (after i (step_of xs)) ≡ Undecided)
-        → (i : ℕ) → i < suc n → verdict_of (after i xs) ≡ Undecided
+    first : (n : ℕ) → verdict_of xs ≡ None → ((i : ℕ) → i < n → verdict_of (after i (step_of xs)) ≡ None)
+        → (i : ℕ) → i < suc n → verdict_of (after i xs) ≡ None
     first n e f zero h = e
     first n e f (suc i) h = f i (omega arith)
 
-    go : (v : Verdict) → verdict_of xs ≡ v → ((n : ℕ) × Ends b (k + 1) (step_of xs) (ran_from b (k + 1) (step_of xs)) n)
+    go : (v : Option Sign) → verdict_of xs ≡ v → ((n : ℕ) × Ends b (k + 1) (step_of xs) (ran_from b (k + 1) (step_of xs)) n)
         → (n : ℕ) × Ends (suc b) k xs (turn v b k xs) n
-    go (Decided s) e r = (
+    go (Some s) e r = (
       0,
       record {
         most = zero-le;
@@ -82,7 +81,7 @@ ends (suc b) k xs = go (verdict_of xs) refl (ends b (k + 1) (step_of xs))
         spent = λ u. cc;
       },
     )
-    go Undecided e (n, r) = (
+    go None e (n, r) = (
       suc n,
       record {
         most = omega (arith, r.most);
@@ -115,24 +114,24 @@ module _ (b : ℕ) (xs : List Float) where
   ran_verdict = own.look ∙ ap verdict_of (sym own.list)
 
   -- a step is taken only while nothing is decided
-  pub ran_before : (i : ℕ) → i < run.steps → verdict_of (after i xs) ≡ Undecided
+  pub ran_before : (i : ℕ) → i < run.steps → verdict_of (after i xs) ≡ None
   ran_before = own.before
 
   -- and stops undecided only where the budget is spent
-  pub ran_spent : run.verdict ≡ Undecided → run.steps ≡ b
+  pub ran_spent : run.verdict ≡ None → run.steps ≡ b
   ran_spent = own.spent
 
 -- ---- what every step keeps, a run keeps; P may count the steps
 after_keeps : (P : ℕ → List Float → Type 0)
-    → ((i : ℕ) (xs : List Float) → verdict_of xs ≡ Undecided → P i xs → P (suc i) (step_of xs))
-    → (n : ℕ) (xs : List Float) → ((i : ℕ) → i < n → verdict_of (after i xs) ≡ Undecided) → P 0 xs → P n (after n xs)
+    → ((i : ℕ) (xs : List Float) → verdict_of xs ≡ None → P i xs → P (suc i) (step_of xs))
+    → (n : ℕ) (xs : List Float) → ((i : ℕ) → i < n → verdict_of (after i xs) ≡ None) → P 0 xs → P n (after n xs)
 unfolding after
 after_keeps P f zero xs u h = h
 after_keeps P f (suc n) xs u h =
     after_keeps (λ i. P (suc i)) (λ i. f (suc i)) n (step_of xs) (λ i l. u (suc i) (omega arith)) (f 0 xs (u 0 (zero-lt-suc n)) h)
 
 pub ran_keeps : (P : ℕ → List Float → Type 0)
-    → ((i : ℕ) (xs : List Float) → verdict_of xs ≡ Undecided → P i xs → P (suc i) (step_of xs))
+    → ((i : ℕ) (xs : List Float) → verdict_of xs ≡ None → P i xs → P (suc i) (step_of xs))
     → (b : ℕ) (xs : List Float) → P 0 xs → P (ran_from b 0 xs).steps (ran_from b 0 xs).left
 ran_keeps P f b xs h =
     let n = (ran_from b 0 xs).steps in

@@ -15,19 +15,18 @@ use Rattle.sum.specs.Look.{verdict_of}
 use Rattle.sum.specs.Ceiling.{ceiling_of}
 use Rattle.sum.specs.Run.{ran_from, after, Settles}
 use Rattle.sum.specs.declared.answer.Sign.{Sign}
-use Rattle.sum.specs.declared.answer.Verdict.{Verdict}
-use Rattle.sum.specs.declared.answer.Verdict.TheVariants.{Decided, Undecided}
 use Rattle.sum.proofs.Laws.Entries.{AllReal}
 use Rattle.sum.proofs.Laws.Runs.{ran_left, ran_verdict, ran_before, ran_steps_most, ran_spent}
 use Rattle.sum.proofs.Laws.Descent.{ceiling_steps, ceiling_enough}
+use Rattle.std.specs.Prelude.{None, Option, Some}
 
 -- a list is decided or not
-not_both : {A : Type 0} {v : Verdict} {s : Sign} → v ≡ Decided s → v ≡ Undecided → A
+not_both : {A : Type 0} {v : (Option Sign)} {s : Sign} → v ≡ Some s → v ≡ None → A
 not_both e f = let z : ◌≡◌ {A = ℕ} 0 1 = cc in let w : ⊥ = omega arith in absurd w
 
 module _ (xs : List Float) where
   -- no list before the one that settles it is decided
-  settles_least : (n k : ℕ) → Settles xs n → (s : Sign) → verdict_of (after k xs) ≡ Decided s → n ≤ k
+  settles_least : (n k : ℕ) → Settles xs n → (s : Sign) → verdict_of (after k xs) ≡ Some s → n ≤ k
   settles_least n k z s e = elim (lt_or_le k n) [ inl h ↦ not_both e (z.before k h) | inr h ↦ h ]
 
   pub settles_once : (m n : ℕ) → Settles xs m → Settles xs n → m ≡ n
@@ -47,7 +46,7 @@ module _ (xs : List Float) where
 
   -- ---- a run with the budget b
   module _ (n : ℕ) (z : Settles xs n) (b : ℕ) where
-    abbrev verdict : Verdict
+    abbrev verdict : Option Sign
     verdict = (ran_from b 0 xs).verdict
 
     abbrev steps : ℕ
@@ -60,28 +59,28 @@ module _ (xs : List Float) where
     steps_most : steps ≤ n
     steps_most = let (s, e) = z.decides in elim (lt_or_le n steps) [ inl h ↦ not_both e (ran_before b xs n h) | inr h ↦ h ]
 
-    pub settled_enough : n ≤ b → (steps ≡ n) × ((s : Sign) × (verdict ≡ Decided s))
+    pub settled_enough : n ≤ b → (steps ≡ n) × ((s : Sign) × (verdict ≡ Some s))
     settled_enough h = go verdict (sym look) (ran_spent b xs)
       where
-        go : (v : Verdict) → verdict_of (after steps xs) ≡ v → (v ≡ Undecided → steps ≡ b) → (steps ≡ n) × ((s : Sign) × (v ≡ Decided s))
-        go (Decided s) e spent = (le_antisymm steps_most (settles_least n steps z s e), (s, refl_of s))
+        go : (v : Option Sign) → verdict_of (after steps xs) ≡ v → (v ≡ None → steps ≡ b) → (steps ≡ n) × ((s : Sign) × (v ≡ Some s))
+        go (Some s) e spent = (le_antisymm steps_most (settles_least n steps z s e), (s, refl_of s))
           where
-            refl_of : (s : Sign) → Decided s ≡ Decided s
+            refl_of : (s : Sign) → Some s ≡ Some s
             refl_of s = cc
-        go Undecided e spent =
+        go None e spent =
             let (s, d) = z.decides in
             let same : steps ≡ n = le_antisymm steps_most (subst (λ (k : ℕ). n ≤ k) (sym (spent cc)) h) in
             not_both d (ap (λ (k : ℕ). verdict_of (after k xs)) (sym same) ∙ e)
 
-    pub settled_short : b < n → (steps ≡ b) × (verdict ≡ Undecided)
+    pub settled_short : b < n → (steps ≡ b) × (verdict ≡ None)
     settled_short h = go verdict look (ran_spent b xs)
       where
-        go : (v : Verdict) → v ≡ verdict_of (after steps xs) → (v ≡ Undecided → steps ≡ b) → (steps ≡ b) × (v ≡ Undecided)
-        go (Decided s) e spent = not_both (sym e) (z.before steps (below (ran_steps_most b xs)))
+        go : (v : Option Sign) → v ≡ verdict_of (after steps xs) → (v ≡ None → steps ≡ b) → (steps ≡ b) × (v ≡ None)
+        go (Some s) e spent = not_both (sym e) (z.before steps (below (ran_steps_most b xs)))
           where
             below : steps ≤ b → steps < n
             below l = omega arith
-        go Undecided e spent = (spent cc, cc)
+        go None e spent = (spent cc, cc)
 
     pub settled_steps : steps ≡ min b n
     settled_steps = elim (lt_or_le b n) [

@@ -23,14 +23,13 @@ use Rattle.sum.specs.Look.{on_side, count_of, extreme_of, index_of, verdict_of}
 use Rattle.sum.specs.Run.{ran_from}
 use Rattle.sum.specs.declared.answer.Sign.{Sign}
 use Rattle.sum.specs.declared.answer.Sign.TheVariants.{Minus, Zero, Plus}
-use Rattle.sum.specs.declared.answer.Verdict.{Verdict}
-use Rattle.sum.specs.declared.answer.Verdict.TheVariants.{Decided, Undecided}
 use Rattle.sum.proofs.Laws.Entries.{All, AllReal, all_of, sum_of, sum_at}
 use Rattle.sum.proofs.Laws.Extremes.{far, side_is, extreme}
 use Rattle.sum.proofs.Laws.Runs.{ran_verdict, ran_keeps}
 use Rattle.sum.proofs.Laws.Step.{step_real, step_length}
 use Rattle.sum.proofs.Laws.Total.{step_total}
 use Rattle.sum.proofs.Laws.Verdict.{Found, neither, positive, negative, greater, less, close, verdict_found}
+use Rattle.std.specs.Prelude.{None, Option, Some}
 
 -- ---- the total by what lies on each side
 
@@ -95,9 +94,9 @@ module _ (s : Bool) where
 -- ---- the verdict
 
 -- what a verdict says of the total's sign
-abbrev Says : Verdict → ℤ → Type 0
-Says (Decided s) z = sign_number s ≡ sgn z
-Says Undecided z = Unit
+abbrev Says : Option Sign → ℤ → Type 0
+Says (Some s) z = sign_number s ≡ sgn z
+Says None z = Unit
 
 module _ (xs : List Float) (a : AllReal xs) (short : length xs ≤ 2 ^ prec binary64) where
   abbrev P : ℕ
@@ -107,7 +106,7 @@ module _ (xs : List Float) (a : AllReal xs) (short : length xs ≤ 2 ^ prec bina
   M = sum_of (far true) xs
 
   -- by what lies on each side
-  by_sides_lem : (v : Verdict) → Says v (pos P -ℤ pos M) → Says v (total_of xs)
+  by_sides_lem : (v : Option Sign) → Says v (pos P -ℤ pos M) → Says v (total_of xs)
   by_sides_lem v h = subst (Says v) (sym (total_sides xs)) h
 
   p_split : Split false binary64 (extreme_of false xs) (far false (extreme_of false xs)) 0
@@ -129,27 +128,27 @@ module _ (xs : List Float) (a : AllReal xs) (short : length xs ≤ 2 ^ prec bina
       → sum_of (far s) xs < sum_of (far t) xs
   outweighs s t n h = lt_of_le_of_lt (side_most s xs a) (lt_of_lt_of_le h (side_least t xs a n))
 
-  says : {v : Verdict} → Found (count_of false xs) (count_of true xs) (extreme_of false xs) (neg (extreme_of true xs)) v → Says v (total_of xs)
-  says (neither m n) = by_sides_lem (Decided Zero) (sym ((sgn_nat_zero P M).1 (side_none false xs a m ∙ sym (side_none true xs a n))))
+  says : {v : (Option Sign)} → Found (count_of false xs) (count_of true xs) (extreme_of false xs) (neg (extreme_of true xs)) v → Says v (total_of xs)
+  says (neither m n) = by_sides_lem (Some Zero) (sym ((sgn_nat_zero P M).1 (side_none false xs a m ∙ sym (side_none true xs a n))))
   says (positive m n) =
-      by_sides_lem (Decided Plus)
+      by_sides_lem (Some Plus)
       (sym ((sgn_nat_positive P M).1 (subst (λ (k : ℕ). k < P) (sym (side_none true xs a n)) (side_some false xs a m))))
   says (negative m n) =
-      by_sides_lem (Decided Minus)
+      by_sides_lem (Some Minus)
       (sym ((sgn_nat_negative P M).1 (subst (λ (k : ℕ). k < M) (sym (side_none false xs a m)) (side_some true xs a n))))
   says (greater m n t) =
-      by_sides_lem (Decided Plus) (sym ((sgn_nat_positive P M).1 (outweighs true false m
+      by_sides_lem (Some Plus) (sym ((sgn_nat_positive P M).1 (outweighs true false m
       (decision_greater binary64 (extreme_of false xs) (neg (extreme_of true xs)) (count_of true xs) (far false (extreme_of false xs))
       (far true (extreme_of true xs)) p_split q_split (counted true) t))))
   says (less m n t) =
-      by_sides_lem (Decided Minus) (sym ((sgn_nat_negative P M).1 (outweighs false true n
+      by_sides_lem (Some Minus) (sym ((sgn_nat_negative P M).1 (outweighs false true n
       (decision_greater binary64 (neg (extreme_of true xs)) (extreme_of false xs) (count_of false xs) (far true (extreme_of true xs))
       (far false (extreme_of false xs)) q_split p_split (counted false) t))))
   says (close m n t u) = tt
 
   -- a sign is that of the exact sum, whatever decides it
-  pub verdict_sign : (s : Sign) → verdict_of xs ≡ Decided s → sign_number s ≡ sgn (total_of xs)
-  verdict_sign s e = subst (λ (v : Verdict). Says v (total_of xs)) e (says (verdict_found xs))
+  pub verdict_sign : (s : Sign) → verdict_of xs ≡ Some s → sign_number s ≡ sgn (total_of xs)
+  verdict_sign s e = subst (λ (v : Option Sign). Says v (total_of xs)) e (says (verdict_found xs))
 
 -- ---- the run
 
@@ -174,7 +173,7 @@ module _ (budget : ℕ) (xs : List Float) (a : AllReal xs) where
   pub ran_total : total_of (ran_from budget 0 xs).left ≡ total_of xs
   ran_total = kept.total
 
-  pub ran_sign : (s : Sign) → length xs ≤ 2 ^ prec binary64 → (ran_from budget 0 xs).verdict ≡ Decided s → sign_number s ≡ sgn (total_of xs)
+  pub ran_sign : (s : Sign) → length xs ≤ 2 ^ prec binary64 → (ran_from budget 0 xs).verdict ≡ Some s → sign_number s ≡ sgn (total_of xs)
   ran_sign s h e =
       let ys = (ran_from budget 0 xs).left in
       verdict_sign ys kept.real (subst (λ (n : ℕ). n ≤ 2 ^ prec binary64) (sym kept.long) h) s (sym (ran_verdict budget xs) ∙ e)

@@ -22,10 +22,10 @@ use Rattle.double.proofs.Laws.Step.{Opposed, step, step_shrinks, step_equal, ste
 use Rattle.double.proofs.Laws.Decision.{decision_close}
 use Rattle.sum.specs.Look.{count_of, extreme_of, index_of, verdict_of}
 use Rattle.sum.specs.Step.{rounded, roundoff, put, step_of}
-use Rattle.sum.specs.declared.answer.Verdict.TheVariants.{Undecided}
 use Rattle.sum.proofs.Laws.Entries.{AllReal, all_set}
 use Rattle.sum.proofs.Laws.Extremes.{extreme, plus0_is, far_sign}
 use Rattle.sum.proofs.Laws.Verdict.{Open, undecided_open}
+use Rattle.std.specs.Prelude.{None}
 
 -- ---- the two extremes: p is positive, q is negative
 
@@ -203,7 +203,7 @@ pub record Writes (xs : List Float) (u v : Float) : Type 0 where
   pub list : step_of xs ≡ put xs u v
   pub becomes : Becomes (count_of false xs) (count_of true xs) (extreme_of false xs) (extreme_of true xs) u v
 
-pub step_cases : (xs : List Float) → verdict_of xs ≡ Undecided → AllReal xs → (u : Float) × (v : Float) × Writes xs u v
+pub step_cases : (xs : List Float) → verdict_of xs ≡ None → AllReal xs → (u : Float) × (v : Float) × Writes xs u v
 step_cases xs e a = go (lt (neg q) p) (lt p (neg q)) refl refl
   where
     p : Float
@@ -258,7 +258,7 @@ step_cases xs e a = go (lt (neg q) p) (lt p (neg q)) refl refl
           record { list = step_level xs b c; becomes = becomes_nothing m n p q z.0 z.1 p_near },
     )
 
-pub step_real : (xs : List Float) → verdict_of xs ≡ Undecided → AllReal xs → AllReal (step_of xs)
+pub step_real : (xs : List Float) → verdict_of xs ≡ None → AllReal xs → AllReal (step_of xs)
 step_real xs e a =
     let (u, v, w) = step_cases xs e a in
     let ys = set xs (index_of false xs) u in

@@ -6,7 +6,7 @@ use mathlib.Core.List.{List}
 use Prim.Native.Nat.{ℕ, ◌<◌}
 use native.Mathlib.Nat.{zero-add}
 use lib.Dec.{T}
-use lib.ListN.{length, set}
+use lib.ListN.{length-set, length, set}
 use lib.Ieee.{Float, nan, binary64, lt, neg, add, sub}
 use Rattle.double.proofs.Laws.Step as Exact
 use Rattle.double.specs.Worth.{plus0}
@@ -61,6 +61,10 @@ module _ (xs : List Float) (t : Tally) (s : Stepping xs t) where
 
   pub bt_inside : t.bt < length xs
   bt_inside = subst (λ (i : ℕ). i < length xs) (sym bt_is) ((extreme true xs real).inside both.negatives)
+
+  -- also once the first is written
+  pub bt_after : (i : ℕ) (v : Float) → t.bt < length (set xs i v)
+  bt_after i v = simp length-set bt_inside
 
   -- the larger of the two, by the code's tests
   opposed : {a b : Float} → Exact.Opposed binary64 a b → Opposed a b

@@ -4,15 +4,14 @@ use mathlib.Core.Path.{◌≡◌, refl, sym, ap, ◌∙◌, subst}
 use mathlib.Core.Bool.{Bool, true, false, cond}
 use mathlib.Core.List.{List, [], ◌∷◌}
 use Prim.Native.Nat.{ℕ, suc, ◌+◌, ◌*◌, ◌≤◌, ◌<◌, zero-le}
-use native.Mathlib.Numerals.{add-one}
 use native.Mathlib.Nat.{add_comm, add-zero, zero-add, zero-mul, le_refl, le_trans, le_of_eq}
 use native.Mathlib.Omega.{arith}
 use lib.Dec.{T, ltb}
-use lib.ListN.{length, drop, get_or, length-drop}
-use lib.Seq.{drop-cons, drop-length}
+use lib.ListN.{length}
 use lib.Ieee.{Float, nan, inf, fin, lt, le, of_bits, up, down}
 use borrow.Author.Tests.{le-ltb}
 use Rattle.double.specs.Worth.{plus0}
+use Rattle.sum.specs.Limit.{limit}
 use Rattle.sum.specs.Look.{on_side, as_far, count_of, extreme_of, index_of}
 use Rattle.sum.specs.Tally.{tally_of, seen_of}
 use Rattle.sum.specs.declared.look.Tally.{Tally}
@@ -109,17 +108,15 @@ module _ (i : ℕ) (x : Float) (xs : List Float) where
           ∙ tallies (adds_none false x xs p) (adds_none true x xs n) (past (index_of false xs)) (past (index_of true xs))
 
 -- no entry: the indices are the list's length
-pub tally_end : (xs : List Float) → record { a = plus0; at = length xs; m = 0; b = plus0; bt = length xs; n = 0 } ≡ tally_of (length xs) (drop (length xs) xs)
+pub tally_end : (i n : ℕ) → i ≡ n → record { a = plus0; at = n; m = 0; b = plus0; bt = n; n = 0 } ≡ tally_of i []
 unfolding extreme_of index_of count_of
-tally_end xs = rw (drop-length xs, add-zero (length xs))
+tally_end i n e = rw (e, add-zero n)
 
--- the entry j before index i
-pub tally_before : (xs : List Float) (j i : ℕ) → i ≡ j + 1 → j < length xs
-    → seen_of j (get_or xs j nan) (tally_of i (drop i xs)) ≡ tally_of j (drop j xs)
-tally_before xs j i e h =
-    ap (λ (n : ℕ). seen_of j (get_or xs j nan) (tally_of n (drop n xs))) e
-    ∙ tally_turn j (get_or xs j nan) (drop (j + 1) xs)
-    ∙ ap (λ (l : List Float). tally_of j l) (ap (λ (n : ℕ). get_or xs j nan ∷ drop n xs) (add-one j) ∙ sym (drop-cons xs j nan h))
+-- the entry before the entries xs
+pub tally_before : (x : Float) (xs : List Float) (t r : Tally) (i j : ℕ) → j ≡ i + 1 → t ≡ tally_of j xs → r ≡ seen_of i x t
+    → r ≡ tally_of i (x ∷ xs)
+tally_before x xs t r i j e f g =
+    g ∙ ap (seen_of i x) (f ∙ ap (λ (n : ℕ). tally_of n xs) e) ∙ tally_turn i x xs
 
 -- no more entries on a side than entries
 pub count_most : (s : Bool) (xs : List Float) → count_of s xs ≤ length xs
@@ -131,5 +128,6 @@ count_most s (x ∷ xs) = go (on_side s x) (count_most s xs)
     go true h = omega arith
     go false h = omega arith
 
-pub count_before : (s : Bool) (xs : List Float) (i : ℕ) → 0 < i → i ≤ length xs → count_of s (drop i xs) < length xs
-count_before s xs i h k = omega (arith, count_most s (drop i xs), length-drop i xs)
+-- where an entry is left, there is room for one more on each side
+pub count_room : (s : Bool) (xs done : List Float) → length done + 1 ≤ length xs → length xs ≤ limit → count_of s done < limit
+count_room s xs done r h = omega (arith, count_most s done)

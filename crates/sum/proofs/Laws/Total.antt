@@ -15,11 +15,11 @@ use Rattle.double.specs.Worth.{worth, plus0}
 use Rattle.sum.specs.Total.{total_of}
 use Rattle.sum.specs.Look.{extreme_of, index_of, verdict_of}
 use Rattle.sum.specs.Step.{put, step_of}
-use Rattle.sum.specs.declared.answer.Verdict.TheVariants.{Undecided}
 use Rattle.sum.proofs.Laws.Entries.{AllReal, sum_of, sum_set}
 use Rattle.sum.proofs.Laws.Extremes.{extreme, extreme_apart}
 use Rattle.sum.proofs.Laws.Verdict.{Open, undecided_open}
 use Rattle.sum.proofs.Laws.Step.{step_cases}
+use Rattle.std.specs.Prelude.{None}
 
 pub total_set : (xs : List Float) (i : ℕ) (u d : Float) → i < length xs
     → total_of (set xs i u) +ℤ worth (get_or xs i d) ≡ total_of xs +ℤ worth u
@@ -78,7 +78,7 @@ module _ (xs : List Float) (a : AllReal xs) (o : Open xs) (u v : Float) where
           (λ ρ v n m. simp (int_rules, v 0, v 1, v 2, v 3, v 4, v 5, v 6) (omega arith))
 
 -- ---- a step leaves the exact total as it is
-pub step_total : (xs : List Float) → verdict_of xs ≡ Undecided → AllReal xs → total_of (step_of xs) ≡ total_of xs
+pub step_total : (xs : List Float) → verdict_of xs ≡ None → AllReal xs → total_of (step_of xs) ≡ total_of xs
 step_total xs e a =
     let (u, v, w) = step_cases xs e a in
     ap total_of w.list

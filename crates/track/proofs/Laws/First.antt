@@ -11,12 +11,12 @@ use lib.ListN.{length, take, length-take}
 use lib.Ieee.{Float}
 use Rattle.refusal.specs.Outcome.{Outcome, answers, refuses, too_many, no_room, bytes_after}
 use Rattle.refusal.specs.Judged.{require, also}
+use Rattle.number.specs.declared.answer.Number.{Number}
 use Rattle.number.specs.Number.{Bytes, number_of}
 use Rattle.track.specs.File.{largest}
+use Rattle.coordinate.specs.declared.answer.Coordinate.{Coordinate}
 use Rattle.coordinate.specs.Coordinate.{coordinate_of}
 use Rattle.track.specs.Read.{coordinates_of, counted_of, read_of}
-use Rattle.number.specs.declared.answer.Number.{Number}
-use Rattle.coordinate.specs.declared.answer.Coordinate.{Coordinate}
 use Rattle.number.proofs.Laws.Written.{written_length, written_mono}
 use Rattle.track.proofs.Laws.Scan.{coordinates_end, coordinates_turn}
 use Rattle.number.proofs.Laws.Taken.{Read, number_read, number_first}

@@ -11,6 +11,7 @@ use lib.Dec.{leb}
 use lib.ListN.{length, take, drop}
 use lib.Seq.{take-append_seam}
 use lib.Ieee.{Float}
+use Rattle.std.specs.Prelude.{Ok}
 use Rattle.refusal.specs.Outcome.{Outcome, answers, too_many, no_room, bytes_after}
 use Rattle.point.specs.Accepted.{accepted_of}
 use Rattle.refusal.specs.Judged.{filled}
@@ -19,7 +20,6 @@ use Rattle.track.specs.File.{limit}
 use Rattle.track.specs.Write.{AllAccepted}
 use Rattle.coordinate.specs.Coordinate.{coordinate_of}
 use Rattle.track.specs.Read.{coordinates_of, counted_of, read_of, ReadSays}
-use Rattle.track.specs.declared.answer.Reading.TheVariants.{Points}
 use Rattle.refusal.proofs.Laws.Judged.{also_answered, require_answered}
 use Rattle.coordinate.proofs.Laws.Taken.{coordinate_accepted}
 use Rattle.track.proofs.Laws.Scan.{coordinates_end, coordinates_turn}
@@ -78,7 +78,7 @@ pub record Held (bytes : List ℕ) (room n : ℕ) (left : List Float) : Type 0 w
   pub few : n ≤ limit
   pub good : AllAccepted (take (2 * n) left)
 
-pub read_held : {bytes : List ℕ} {lent : List Float} {n : ℕ} {left : List Float} → ReadSays bytes lent (Points n) left
+pub read_held : {bytes : List ℕ} {lent : List Float} {n : ℕ} {left : List Float} → ReadSays bytes lent (Ok n) left
     → Held bytes (length lent) n left
 read_held {bytes} {lent} {n} {left} r =
     let a = also_answered (read_of limit bytes (length lent)) _ (sym r.answer) in

@@ -11,6 +11,7 @@ use lib.Dec.{eqb, leb}
 use lib.ListN.{length, drop}
 use Rattle.refusal.specs.Outcome.{Outcome, answers, too_many, not_accepted, ends_early, not_shortest, bytes_after, no_room}
 use Rattle.refusal.specs.Judged.{require, also}
+use Rattle.refusal.proofs.Laws.Outcome.{never}
 use Rattle.number.specs.Number.{number_of}
 use Rattle.coordinate.specs.Coordinate.{coordinate_of}
 use Rattle.track.specs.Read.{coordinates_of, counted_of, read_of}
@@ -83,7 +84,7 @@ module _ (is : ℕ → Bool) where
   pub only_require_held : {B : Type 0} (t : Bool) (n p : ℕ) (next : Unit → Outcome B) → t ≡ true → Only is (next tt)
       → Only is (also (require t n p) next)
   only_require_held t n p next h k =
-      each_require numbered t n p next (λ f. absurd (let z : ◌≡◌ {A = ℕ} 0 1 = cc in omega arith)) (λ _. k)
+      each_require numbered t n p next (λ f. never (cc)) (λ _. k)
 
 -- ---- the reader's numbers, where there is room: all but 9 of the order: 6 or 7 for the count, 1, 9, then 6 or 7 and 3 for each number, last 8
 abbrev pub is_readers : ℕ → Bool

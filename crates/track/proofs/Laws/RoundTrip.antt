@@ -14,13 +14,13 @@ use Rattle.refusal.specs.Outcome.{answers, odd_length, too_many, not_accepted, n
 use Rattle.refusal.specs.Search.{passing_from}
 use Rattle.point.specs.Accepted.{accepted_of}
 use Rattle.double.specs.Worth.{AllDoubles}
+use Rattle.number.specs.declared.answer.Number.{Number}
 use Rattle.number.specs.Number.{written_of, Bytes, number_of}
 use Rattle.coordinate.specs.Difference.{stored_of}
 use Rattle.track.specs.File.{coordinate_bytes, file_of, largest}
 use Rattle.track.specs.Write.{accepted_from, write_of}
 use Rattle.coordinate.specs.Coordinate.{coordinate_of}
 use Rattle.track.specs.Read.{coordinates_of, counted_of, read_of}
-use Rattle.number.specs.declared.answer.Number.{Number}
 use Rattle.refusal.proofs.Laws.Judged.{also_answers, require_holds, also_answered, require_answered}
 use Rattle.number.proofs.Laws.Number.{number_back}
 use Rattle.number.proofs.Laws.Taken.{number_read}

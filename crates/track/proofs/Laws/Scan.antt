@@ -11,10 +11,11 @@ use lib.ListN.{length}
 use lib.Ieee.{Float}
 use Rattle.refusal.specs.Outcome.{Outcome, answers, refuses, bytes_after}
 use Rattle.refusal.specs.Judged.{require, also}
+use Rattle.refusal.proofs.Laws.Outcome.{never}
+use Rattle.coordinate.specs.declared.answer.Coordinate.{Coordinate}
 use Rattle.coordinate.specs.Coordinate.{coordinate_of}
 use Rattle.track.specs.Scan.{Scan, coordinate_then, scan_from, values, offset_after, pattern_after}
 use Rattle.track.specs.Read.{coordinates_of}
-use Rattle.coordinate.specs.declared.answer.Coordinate.{Coordinate}
 use Rattle.coordinate.proofs.Laws.Coordinate.{is_coordinates, coordinate_refusal}
 
 -- ---- turn by turn
@@ -62,8 +63,8 @@ pub record Scanned (bytes : List ℕ) (start before other n : ℕ) (s : Scan) : 
       × (coordinate_of bytes (offset_after start s.coordinates) (pattern_after before other s.coordinates) ≡ refuses number place)
 
 none_before : (cs : List Coordinate) (c : Coordinate) (ds : List Coordinate) → ◌≡◌ {A = List Coordinate} [] (cs ++ (c ∷ ds)) → ⊥
-none_before [] c ds e = let z : ◌≡◌ {A = ℕ} 0 1 = cc in omega arith
-none_before (b ∷ bs) c ds e = let z : ◌≡◌ {A = ℕ} 0 1 = cc in omega arith
+none_before [] c ds e = never (cc)
+none_before (b ∷ bs) c ds e = never (cc)
 
 module _ (bytes : List ℕ) (start before other : ℕ) where
   scanned_end : (t : Bool) → leb (length bytes) start ≡ t
@@ -72,13 +73,13 @@ module _ (bytes : List ℕ) (start before other : ℕ) where
     few = omega arith;
     whole = λ cs c ds e. absurd (none_before cs c ds e);
     ended = λ _. (refl, leb-true (length bytes) start h);
-    over = λ place e. absurd (let z : ◌≡◌ {A = ℕ} 0 1 = cc in omega arith);
-    fault = λ number place e. absurd (let z : ◌≡◌ {A = ℕ} 0 1 = cc in omega arith);
+    over = λ place e. never (cc);
+    fault = λ number place e. never (cc);
   }
   scanned_end false h = record {
     few = omega arith;
     whole = λ cs c ds e. absurd (none_before cs c ds e);
-    ended = λ e. absurd (let z : ◌≡◌ {A = ℕ} 0 1 = cc in omega arith);
+    ended = λ e. never (cc);
     over = λ place e. (let same : start ≡ place = cc in (refl, sym same, omega (arith, leb-false (length bytes) start h)));
     fault = λ number place e k. absurd (k (cc));
   }
@@ -106,7 +107,7 @@ module _ (bytes : List ℕ) (start before other : ℕ) where
   scanned_turn n (refuses number place) rest e later = record {
     few = omega arith;
     whole = λ cs c ds h. absurd (none_before cs c ds h);
-    ended = λ h. absurd (let z : ◌≡◌ {A = ℕ} 0 1 = cc in omega arith);
+    ended = λ h. never (cc);
     over = λ p h. absurd (
         let eight : number ≡ bytes_after = cc in
         let z : false ≡ true = ap is_coordinates (sym eight) ∙ (coordinate_refusal bytes start before number place e).0 in

@@ -10,8 +10,10 @@ use borrow.Author.Tests.{le-leb, lt-leb, eq-eqb, ne_eqb}
 use lib.ListN.{length, drop, get_or, length-append, drop_of_length-le}
 use lib.Seq.{drop-cons, sets, sets-eq}
 use lib.Ieee.{Float, nan, binary64, to_bits}
+use Rattle.std.specs.Prelude.{Result}
+use Rattle.refusal.specs.declared.Refusal.{Refusal}
 use Rattle.refusal.specs.Outcome.{Outcome, answers, refuses, Fixes, odd_length, too_many, not_accepted, no_room}
-use Rattle.refusal.proofs.Laws.Outcome.{refuses_once}
+use Rattle.refusal.proofs.Laws.Outcome.{outcome_once, never}
 use Rattle.refusal.specs.Search.{passing_from}
 use Rattle.point.specs.Accepted.{accepted_of}
 use Rattle.refusal.specs.Judged.{require, also, filled}
@@ -20,8 +22,6 @@ use Rattle.coordinate.specs.Difference.{stored_of}
 use Rattle.track.specs.File.{limit, coordinate_bytes, file_of}
 use Rattle.track.specs.Write.{accepted_from, write_of, said, WriteSays, AllAccepted}
 use Rattle.track.specs.Parts.{measure_of}
-use Rattle.track.specs.declared.answer.Writing.{Writing}
-use Rattle.track.specs.declared.answer.Writing.TheVariants.{Length, Refused}
 use Rattle.refusal.proofs.Laws.Judged.{also_answers, also_refuses, require_holds, require_fails, require_answered}
 use Rattle.number.proofs.Laws.Written.{written_length}
 use Rattle.track.proofs.Laws.File.{bytes_more, bytes_end}
@@ -104,7 +104,7 @@ measure_accepts points n e = go (accepted_from 0 points) e
     go : (o : Outcome Unit) → answers n ≡ also o (λ _. answers (length (coordinate_bytes 0 0 points)))
         → (o ≡ answers tt) × (n ≡ length (coordinate_bytes 0 0 points))
     go (answers u) e = (refl, cc)
-    go (refuses number place) e = absurd (let z : ◌≡◌ {A = ℕ} 0 1 = cc in omega arith)
+    go (refuses number place) e = never (cc)
 
 pub measure_refuses : (points : List Float) (number place : ℕ) → refuses number place ≡ measure_of points
     → accepted_from 0 points ≡ refuses number place
@@ -112,7 +112,7 @@ unfolding measure_of
 measure_refuses points number place e = go (accepted_from 0 points) e
   where
     go : (o : Outcome Unit) → refuses number place ≡ also o (λ _. answers (length (coordinate_bytes 0 0 points))) → o ≡ refuses number place
-    go (answers u) e = absurd (let z : ◌≡◌ {A = ℕ} 0 1 = cc in omega arith)
+    go (answers u) e = never (cc)
     go (refuses n p) e = (cc)
 
 -- ---- the writer's answers
@@ -147,7 +147,7 @@ module _ (most : ℕ) (points : List Float) (room : ℕ) where
             ∙ require_holds no_room 0 _ (le-leb _ _ h)
 
 -- ---- the promise
-module _ {points : List Float} {lent : List ℕ} {r : Writing} where
+module _ {points : List Float} {lent : List ℕ} {r : Result ℕ Refusal} where
   pub says_refused : {number place : ℕ} → write_of limit points (length lent) ≡ refuses number place → said r ≡ refuses number place
       → WriteSays points lent r lent
   says_refused e s = record { answer = s ∙ sym (also_refuses _ e); bytes = sym (ap (λ (o : Outcome (List ℕ)). filled o lent) e) }
@@ -163,13 +163,7 @@ module _ {points : List Float} {lent : List ℕ} {r : Writing} where
             ∙ sym (ap (λ (o : Outcome (List ℕ)). filled o lent) e);
       }
 
-pub said_once : (a b : Writing) → said a ≡ said b → a ≡ b
-said_once (Length m) (Length n) e = let p : m ≡ n = cc in ap Length p
-said_once (Refused r) (Refused q) e = ap Refused (refuses_once {A = ℕ} r q e)
-said_once (Length m) (Refused q) e = absurd (let z : ◌≡◌ {A = ℕ} 0 1 = cc in omega arith)
-said_once (Refused r) (Length n) e = absurd (let z : ◌≡◌ {A = ℕ} 0 1 = cc in omega arith)
-
 -- no two results satisfy the promise: neither the answer nor a lent byte is left open
-pub write_fixed : (points : List Float) (lent : List ℕ) → Fixes (λ (w : Writing × List ℕ). WriteSays points lent w.0 w.1)
+pub write_fixed : (points : List Float) (lent : List ℕ) → Fixes (λ (w : Result ℕ Refusal × List ℕ). WriteSays points lent w.0 w.1)
 write_fixed points lent a b p q =
-    ap₂ (λ (r : Writing) (left : List ℕ). (r, left)) (said_once a.0 b.0 (p.answer ∙ sym q.answer)) (p.bytes ∙ sym q.bytes)
+    ap₂ (λ (r : Result ℕ Refusal) (left : List ℕ). (r, left)) (outcome_once _ (λ m n e. e) a.0 b.0 (p.answer ∙ sym q.answer)) (p.bytes ∙ sym q.bytes)

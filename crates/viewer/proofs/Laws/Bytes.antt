@@ -2,13 +2,16 @@
 -- that decodes. Assumes nothing.
 use mathlib.Core.Path.{◌≡◌, refl, sym, ap, ap₂, ◌∙◌}
 use mathlib.Core.List.{List, [], ◌∷◌, ◌++◌}
-use Prim.Native.Nat.{ℕ, zero, suc, ◌+◌, ◌*◌, ◌^◌, ◌≤◌, ◌<◌}
+use Prim.Native.Nat.{ℕ, zero, suc, ◌+◌, ◌*◌, ◌^◌, ◌/◌, ◌≤◌, ◌<◌}
 use native.Mathlib.Omega.{arith}
 use native.Mathlib.Numerals.{add-one}
-use lib.ListN.{length, take, drop, get_or, set, length-set}
+use lib.ListN.{length, take, drop, get_or, set}
 use lib.Seq.{drop-cons, drop-drop, take-suc-set}
 use lib.Ieee.{Float, binary64, of_bits}
-use Rattle.viewer.specs.Bytes.{little_endian, doubles_from}
+use Rattle.std.proofs.Common.{w64}
+use Rattle.std.specs.Int.{from_le_bytes}
+use Rattle.std.specs.Simd.{first_chunks}
+use Rattle.viewer.specs.Bytes.{little_endian, doubles_from, doubles_of}
 
 -- the byte at an index, and those after it
 bytes_from_lem : (bytes : List ℕ) (k j next : ℕ) → suc j ≡ next → j < length bytes
@@ -66,26 +69,37 @@ doubles_last (suc n) bytes =
     (doubles_last n (drop 8 bytes) ∙ ap (λ (x : Float). doubles_from n (drop 8 bytes) ++ (x ∷ [])) last)
 
 -- ---- the loop
-pub record Decoding (bytes : List ℕ) (n : ℕ) (lent list : List Float) (i : ℕ) : Type 0 where
-  pub len : length list ≡ length lent
-  pub few : i ≤ n
-  pub done : take i list ≡ doubles_from i bytes
+-- pattern i of the first n
+pub pattern_at : (n : ℕ) (bytes : List ℕ) (i : ℕ) → i < n → get_or (first_chunks 8 n bytes) i [] ≡ take 8 (drop (8 * i) bytes)
+pattern_at zero bytes i h = let z : ⊥ = omega arith in absurd z
+pattern_at (suc n) bytes zero h = refl
+pattern_at (suc n) bytes (suc i) h =
+    let e : 8 + 8 * i ≡ 8 * suc i = omega arith in
+    pattern_at n (drop 8 bytes) i (omega arith)
+    ∙ ap (take 8) (drop-drop (8 * i) 8 bytes ∙ ap (λ (k : ℕ). drop k bytes) e)
 
-pub decoding_start : (bytes : List ℕ) (n : ℕ) (list : List Float) → Decoding bytes n list list 0
+-- its number, as std reads it
+pub pattern_is : (bytes : List ℕ) (i : ℕ) → i < length bytes / 8 → {pattern : List ℕ} → pattern ≡ take 8 (drop (8 * i) bytes)
+    → from_le_bytes w64 pattern ≡ little_endian (take 8 (drop (8 * i) bytes))
+pattern_is bytes i h e =
+    let bytes_are = eight_bytes bytes (8 * i) (omega arith) in
+    ap (from_le_bytes w64) (e ∙ bytes_are) ∙ eight _ _ _ _ _ _ _ _ ∙ ap little_endian (sym bytes_are)
+  where
+    eight : (a b c d e f g h : ℕ)
+        → from_le_bytes w64 (a ∷ b ∷ c ∷ d ∷ e ∷ f ∷ g ∷ h ∷ []) ≡ little_endian (a ∷ b ∷ c ∷ d ∷ e ∷ f ∷ g ∷ h ∷ [])
+    eight a b c d e f g h = omega arith
+
+pub decoding_start : (bytes : List ℕ) (list : List Float) → take 0 list ≡ doubles_from 0 bytes
 unfolding doubles_from
-decoding_start bytes n list = record { len = refl; few = omega arith; done = refl }
+decoding_start bytes list = refl
 
-pub decoding_turn : (bytes : List ℕ) (n : ℕ) (lent list : List Float) (i : ℕ) → Decoding bytes n lent list i → i < n → n ≤ length lent
-    → (x : Float) → x ≡ double_at bytes i → Decoding bytes n lent (set list i x) (i + 1)
-decoding_turn bytes n lent list i d h room x e = record {
-  len = simp length-set d.len;
-  few = omega arith;
-  done =
-      let fits : i < length list = omega (arith, d.len) in
-      let one_more = ap₂ (λ (l : List Float) (y : Float). l ++ (y ∷ [])) d.done e in
-      rw add-one (take-suc-set list i x fits ∙ one_more ∙ sym (doubles_last i bytes));
-}
+pub decoding_turn : (bytes : List ℕ) (list : List Float) (i : ℕ) → take i list ≡ doubles_from i bytes → i < length list → (x : Float)
+    → x ≡ double_at bytes i → take (i + 1) (set list i x) ≡ doubles_from (i + 1) bytes
+decoding_turn bytes list i done fits x e =
+    let one_more = ap₂ (λ (l : List Float) (y : Float). l ++ (y ∷ [])) done e in
+    rw add-one (take-suc-set list i x fits ∙ one_more ∙ sym (doubles_last i bytes))
 
-pub decoding_done : (bytes : List ℕ) (n : ℕ) (lent list : List Float) (i : ℕ) → Decoding bytes n lent list i → n ≤ i
-    → take n list ≡ doubles_from n bytes
-decoding_done bytes n lent list i d h = let e : i ≡ n = omega (arith, d.few) in rw e at d.done
+pub decoding_done : (bytes : List ℕ) (list : List Float) (n : ℕ) → n ≡ length bytes / 8 → take n list ≡ doubles_from n bytes
+    → take (length bytes / 8) list ≡ doubles_of bytes
+unfolding doubles_of
+decoding_done bytes list n e done = rw e at done

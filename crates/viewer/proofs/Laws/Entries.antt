@@ -7,27 +7,26 @@ use Prim.Native.Nat.{ℕ, zero, suc, ◌+◌, ◌*◌, ◌/◌, ◌%◌, ◌≤�
 use native.Mathlib.Omega.{arith}
 use lib.Dec.{eqb}
 use lib.IntN.{ℤ, pos, negsuc}
-use lib.ListN.{length}
+use lib.ListN.{take, length}
 use lib.Ieee.{Float}
 use borrow.Author.Tests.{eq-eqb, ne_eqb}
-use Rattle.refusal.specs.Outcome.{Outcome, Fixes, too_many, too_few_corners, odd_length}
+use Rattle.refusal.specs.Outcome.{Outcome, Fixes, too_many, too_few_corners, odd_length, kind_number}
 use Rattle.refusal.specs.Judged.{require, also}
 use Rattle.refusal.specs.declared.Refusal.{Refusal}
 use Rattle.point.specs.declared.Point.{Point}
 use Rattle.sum.specs.Total.{sign_number}
 use Rattle.geometry.specs.Side.{Turned, side_of, said}
 use Rattle.geometry.specs.declared.answer.Turn.{Turn}
-use Rattle.geometry.specs.declared.answer.Side.TheVariants.{Of, Refused as SideRefused}
 use Rattle.geometry.specs.Zone.{fewest, most, place_said, zone_of, zone_said}
 use Rattle.ground.specs.Zone.{Lies, outside, border, inside, place_number}
 use Rattle.geometry.specs.declared.answer.Place.{Place}
-use Rattle.geometry.specs.declared.answer.Zone.TheVariants.{At, Refused}
 use Rattle.geometry.proofs.Laws.Zone.{zone_small, zone_large}
 use Rattle.geometry.proofs.Laws.Outcomes.{side_outcomes, zone_outcomes}
 use Rattle.viewer.specs.Bytes.{point_of, doubles_from, doubles_of}
 use Rattle.viewer.specs.Entries.{base, entry_of, sign_answer, turn_answer, side_entry, SideEntrySays, zone_of_bytes, zone_entry, ZoneEntrySays}
 use Rattle.viewer.specs.Entries.{is_one_of, side_answers, zone_answers}
 use Rattle.viewer.proofs.Laws.Bytes.{doubles_length}
+use Rattle.std.specs.Prelude.{Err, Ok}
 
 -- ---- the side
 module _ (px py qx qy rx ry : ℕ) (p q r : Point) (at_p : p ≡ point_of px py) (at_q : q ≡ point_of qx qy) (at_r : r ≡ point_of rx ry) where
@@ -37,13 +36,13 @@ module _ (px py qx qy rx ry : ℕ) (p q r : Point) (at_p : p ≡ point_of px py)
       let same : side_of p q r ≡ side_of (point_of px py) (point_of qx qy) (point_of rx ry) = cc in
       ap (λ (o : Outcome Turned). entry_of turn_answer o) (h ∙ same)
 
-  pub side_entry_turn : (t : Turn) → said (Of t) ≡ side_of p q r → sign_answer (sign_number t.sign) ≡ side_entry px py qx qy rx ry
+  pub side_entry_turn : (t : Turn) → said (Ok t) ≡ side_of p q r → sign_answer (sign_number t.sign) ≡ side_entry px py qx qy rx ry
   unfolding said entry_of
-  side_entry_turn t h = side_said (said (Of t)) h
+  side_entry_turn t h = side_said (said (Ok t)) h
 
-  pub side_entry_refused : (n : Refusal) → said (SideRefused n) ≡ side_of p q r → base + n.number ≡ side_entry px py qx qy rx ry
+  pub side_entry_refused : (n : Refusal) → said (Err n) ≡ side_of p q r → base + (kind_number n.kind) ≡ side_entry px py qx qy rx ry
   unfolding said entry_of
-  side_entry_refused n h = side_said (said (SideRefused n)) h
+  side_entry_refused n h = side_said (said (Err n)) h
 
 -- ---- the zone: its length is judged first
 module _ (px py : ℕ) (bytes : List ℕ) where
@@ -80,19 +79,26 @@ module _ (px py : ℕ) (bytes : List ℕ) where
         (omega (arith, doubles_length (2 * corners) bytes)))
         ∙ whole_said
 
-    module _ (p : Point) (xs : List Float) (at : p ≡ point_of px py) (decoded : xs ≡ doubles) where
+    module _ (p : Point) (list : List Float) (at : p ≡ point_of px py) (decoded : take (length bytes / 8) list ≡ doubles_of bytes) where
+      abbrev xs : List Float
+      xs = take (2 * corners) list
+
+      decoded_all : xs ≡ doubles
+      unfolding doubles_of
+      decoded_all = let e : 2 * corners ≡ length bytes / 8 = omega arith in rw e decoded
+
       zone_said_lem : (o : Outcome Lies) → o ≡ zone_of xs p → entry_of place_number o ≡ zone_entry px py bytes
       zone_said_lem o h =
-          let same : zone_of xs p ≡ zone_of doubles (point_of px py) = cc in
+          let same : zone_of xs p ≡ zone_of doubles (point_of px py) = cc decoded_all in
           ap (λ (o : Outcome Lies). entry_of place_number o) (h ∙ same) ∙ whole_said
 
-      pub zone_entry_place : (place : Place) → zone_said (At place) ≡ zone_of xs p → place_number (place_said place) ≡ zone_entry px py bytes
+      pub zone_entry_place : (place : Place) → zone_said (Ok place) ≡ zone_of xs p → place_number (place_said place) ≡ zone_entry px py bytes
       unfolding zone_said entry_of
-      zone_entry_place place h = zone_said_lem (zone_said (At place)) h
+      zone_entry_place place h = zone_said_lem (zone_said (Ok place)) h
 
-      pub zone_entry_refused : (n : Refusal) → zone_said (Refused n) ≡ zone_of xs p → base + n.number ≡ zone_entry px py bytes
+      pub zone_entry_refused : (n : Refusal) → zone_said (Err n) ≡ zone_of xs p → base + (kind_number n.kind) ≡ zone_entry px py bytes
       unfolding zone_said entry_of
-      zone_entry_refused n h = zone_said_lem (zone_said (Refused n)) h
+      zone_entry_refused n h = zone_said_lem (zone_said (Err n)) h
 
 -- ---- every number that an entry can answer
 sign_answers : (s : ℤ) → is_one_of side_answers (sign_answer s) ≡ true

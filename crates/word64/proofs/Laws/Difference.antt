@@ -1,9 +1,11 @@
 -- The difference of two words. In order: the promise, which no two results satisfy; two numbers that are near each other, by their last
 -- words; the signed number of a wrapped difference, by its half. Assumes nothing.
-use Rattle.std.proofs.Common.{◌≡◌, ℕ, ◌+◌, ◌-◌, ◌*◌, ◌/◌, ◌%◌, ◌^◌, ◌<◌, ◌≤◌, [], ◌∷◌, ℤ, pos, negsuc, ◌+ℤ◌, ◌-ℤ◌, ◌*ℤ◌, neg_ℤ, ap, subst, arith}
+use Rattle.std.proofs.Common.{◌≡◌, ℕ, ◌+◌, ◌-◌, ◌*◌, ◌/◌, ◌%◌, ◌^◌, ◌<◌, ◌≤◌, [], ◌∷◌, suc, ◌⊎◌, inl, inr, w64, to_z, ℤ, pos, negsuc, ◌+ℤ◌, ◌-ℤ◌, ◌*ℤ◌, neg_ℤ, sym, ◌∙◌, ap, subst, arith}
+use mir.ValLaws.{to_z_pos, to_z-neg}
 use Rattle.refusal.specs.Outcome.{Fixes}
 use Rattle.whole.specs.Order.{◌≤ᶻ◌, ◌<ᶻ◌}
 use Rattle.whole.proofs.Laws.Parts.{up, dn, difference_parts, ≤_parts, <_parts, ≡_parts}
+use Rattle.whole.proofs.Laws.Order.{lt_or_le}
 use Rattle.whole.proofs.Laws.Linear.{ints, int_rules}
 use Rattle.word64.specs.Word.{SignedDifferenceSays}
 
@@ -42,15 +44,26 @@ difference_of_last_words A B a b r p q over under says =
 
 -- ---- the wrapped difference d: with b it wraps to a
 module _ (a b d : ℕ) (below : d < 2 ^ 64) (wraps : (d + b) % 2 ^ 64 ≡ a) where
-  pub difference_up : d < 2 ^ 63 → SignedDifferenceSays a b (pos d)
+  difference_up : d < 2 ^ 63 → SignedDifferenceSays a b (pos d)
   unfolding up dn
   difference_up h =
       let is : pos (d + b) -ℤ pos b ≡ pos d = (≡_parts _ _).1 (omega (arith, difference_parts (d + b) b)) in
       subst (SignedDifferenceSays a b) is (near_says (d + b) b a b ((d + b) / 2 ^ 64) 0 (omega arith) (omega arith) (omega arith) (omega arith))
 
-  pub difference_down : 2 ^ 63 ≤ d → SignedDifferenceSays a b (negsuc (2 ^ 64 - 1 - d))
+  difference_down : 2 ^ 63 ≤ d → SignedDifferenceSays a b (negsuc (2 ^ 64 - 1 - d))
   unfolding up dn
   difference_down h =
       let is : pos (d + b) -ℤ pos (b + 2 ^ 64) ≡ negsuc (2 ^ 64 - 1 - d) = (≡_parts _ _).1 (omega (arith, difference_parts (d + b) (b + 2 ^ 64))) in
       subst (SignedDifferenceSays a b) is
       (near_says (d + b) (b + 2 ^ 64) a b ((d + b) / 2 ^ 64) 1 (omega arith) (omega arith) (omega arith) (omega arith))
+
+  -- the wrapped difference as a signed number
+  pub difference_signed : SignedDifferenceSays a b (to_z w64 d)
+  difference_signed = go (lt_or_le d (2 ^ 63))
+    where
+      go : (d < 2 ^ 63) ⊎ (2 ^ 63 ≤ d) → SignedDifferenceSays a b (to_z w64 d)
+      go (inl h) = subst (SignedDifferenceSays a b) (sym (to_z_pos w64 d h)) (difference_up h)
+      go (inr h) =
+          let k : ℕ = 2 ^ 64 - 1 - d in
+          let is : 2 ^ 64 - suc k ≡ d = omega arith in
+          subst (SignedDifferenceSays a b) (sym (to_z-neg w64 k (omega arith)) ∙ ap (to_z w64) is) (difference_down h)

@@ -1,9 +1,8 @@
--- Signed arithmetic of the machine. In order: what fits; the negative of any number; one less than that, for a word below 2^63; a number below 0
--- without its sign, and the promise of `magnitude`. An operation reads each operand from its bits, which tell it as long as it fits. Assumes nothing.
-use Rattle.std.proofs.Common.{◌≡◌, ℕ, zero, suc, ◌^◌, ◌<◌, true, false, T, ℤ, pos, negsuc, ◌+ℤ◌, ◌-ℤ◌, neg_ℤ, nat_abs, sym, refl, ap, ◌∙◌, subst, le_of_eq, lt_of_le_of_lt, arith, w64, SFits, to_z, of_z, leb-false}
-use lib.Signed.{le_z, non_neg}
+-- Signed arithmetic of the machine. In order: what fits; the negative of any number; a number below 0 without its sign, and the
+-- promise of `magnitude`. An operation reads each operand from its bits, which tell it as long as it fits. Assumes nothing.
+use Rattle.std.proofs.Common.{◌≡◌, ℕ, zero, suc, ◌^◌, ◌<◌, ℤ, pos, negsuc, ◌+ℤ◌, ◌-ℤ◌, neg_ℤ, nat_abs, sym, refl, ap, ◌∙◌, subst, le_of_eq, lt_of_le_of_lt, arith, w64, SFits, to_z, of_z}
 use lib.IntN.{+ℤ_idl, +ℤ_idr, +ℤ_assoc, -ℤ_one, neg_ℤ-neg_ℤ}
-use mir.ValLaws.{to_z_pos, to_z-of_z}
+use mir.ValLaws.{to_z-of_z}
 use Rattle.refusal.specs.Outcome.{Fixes}
 use Rattle.whole.proofs.Laws.Parts.{nat_abs_neg}
 use Rattle.word64.specs.Word.{MagnitudeSays}
@@ -36,27 +35,7 @@ module _ (k : ℕ) (h : k < 2 ^ 63) where
   negative_fits : SFits w64 (neg_ℤ (pos k))
   negative_fits = signed_fits (neg_ℤ (pos k)) (lt_of_le_of_lt (le_of_eq (nat_abs_neg (pos k))) h)
 
-  pub word_negated_fits : SFits w64 (pos 0 -ℤ to_z w64 k)
-  word_negated_fits = negated_fits _ (pos k) (to_z_pos w64 k h) negative_fits
-
-  one_less : again (pos 0 -ℤ to_z w64 k) -ℤ pos 1 ≡ negsuc k
-  one_less = ap (λ (z : ℤ). z -ℤ pos 1) (negated_again _ (pos k) (to_z_pos w64 k h) negative_fits) ∙ one_below k
-
-  pub one_less_fits : SFits w64 (again (pos 0 -ℤ to_z w64 k) -ℤ pos 1)
-  one_less_fits = subst (SFits w64) (sym one_less) (record { sfits = h })
-
-  pub one_less_again : again (again (pos 0 -ℤ to_z w64 k) -ℤ pos 1) ≡ negsuc k
-  one_less_again = to_z-of_z w64 _ one_less_fits ∙ one_less
-
 -- ---- a number below 0 without its sign: one more, negated, and one more again
-pub below_zero : (z : ℤ) → le_z (pos 0) z ≡ false → (k : ℕ) × (z ≡ negsuc k)
-below_zero (pos n) e = let z : ⊥ = omega (arith, leb-false 0 n e) in absurd z
-below_zero (negsuc k) e = (k, refl)
-
-pub not_below : (z : ℤ) → le_z (pos 0) z ≡ true → T (non_neg z)
-not_below (pos n) e = tt
-not_below (negsuc k) e = absurd (subst T (sym e) tt)
-
 -- as it is read, and k of it besides one
 module _ (z : ℤ) (k : ℕ) (is : z ≡ negsuc k) (h : k < 2 ^ 63) where
   one_more : z +ℤ pos 1 ≡ neg_ℤ (pos k)

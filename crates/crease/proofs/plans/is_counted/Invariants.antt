@@ -1,13 +1,10 @@
 -- `plans::is_counted` meets its contract. The loop's invariant: what is left fits the counts that are left if and only if all fits. Assumes nothing.
-use Prim.Native.Nat.{◌-◌, ◌*◌}
+use Prim.Native.Nat.{◌*◌}
 use mathlib.Core.Path.{◌≡◌}
 use lib.Dec.{eqb}
-use lib.ListN.{drop, length}
+use lib.ListN.{drop}
 use Rattle.crease.specs.Plan.{counted_in}
 use Rattle.crease.proofs.plans.is_counted.Given as goal
 
-abbrev pub invariant-loop-k : goal.invariant-loop-k
-invariant-loop-k l = eqb l.doubles (2 * counted_in l.counts) ≡ eqb l.left (counted_in (drop l.k l.counts))
-
-abbrev pub decreases-loop-k : goal.decreases-loop-k
-decreases-loop-k l = length l.counts - l.k
+abbrev pub invariant-loop-n : goal.invariant-loop-n
+invariant-loop-n l = eqb l.doubles (2 * counted_in l.counts) ≡ eqb l.left (counted_in (drop l.n-index l.counts))

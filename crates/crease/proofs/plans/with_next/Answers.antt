@@ -1,18 +1,18 @@
 -- `plans::with_next` meets its contract: by the zone's answer, or its refusal. Assumes nothing.
 use mathlib.Core.Path.{sym, ap, ◌∙◌}
-use Rattle.geometry.specs.Zone.{zone_said}
-use Rattle.crease.specs.Parts.{with_next}
-use Rattle.crease.specs.declared.answer.Plan.TheVariants.{Of}
+use Rattle.std.proofs.Common.{rules}
+use Rattle.std.proofs.lemmas.Result.{err_from_is_err_and}
+use Rattle.crease.specs.Parts.{claims, with_next}
+use Rattle.crease.proofs.Laws.Zones.{found_next, next_found}
 use Rattle.crease.proofs.plans.with_next.Goals as goal
 
-pub returns-in-At : goal.returns-in-At
-unfolding zone_said
-returns-in-At c =
-    ap Of c.with_zone.ensures
-    ∙ ap (with_next c.args.claim c.args.k) (ap zone_said (sym c.in-At.is) ∙ c.zone.ensures)
+pub returns : goal.returns
+returns c =
+    ap claims c.with_zone.ensures ∙ ap (found_next c.args.claim c.args.k) (sym c.in_ok-place.was)
+    ∙ next_found _ _ _ _ _ (λ f r q. search rules) c.map_err.ensures.cases ∙ ap (with_next c.args.claim c.args.k) c.zone.ensures
 
-pub returns-in-Refused : goal.returns-in-Refused
-unfolding zone_said
-returns-in-Refused c =
-    c.refused.ensures
-    ∙ ap (with_next c.args.claim c.args.k) (ap zone_said (sym c.in-Refused.is) ∙ c.zone.ensures)
+pub returns-in_err-place : goal.returns-in_err-place
+returns-in_err-place c =
+    let p = err_from_is_err_and c.from_residual.result c.from_residual.ensures.1 in
+    rw (p.1, p.2) (ap (found_next c.args.claim c.args.k) (sym c.in_err-place.was)
+    ∙ next_found _ _ _ _ _ (λ f r q. search rules) c.map_err.ensures.cases ∙ ap (with_next c.args.claim c.args.k) c.zone.ensures)

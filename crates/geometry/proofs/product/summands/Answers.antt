@@ -1,66 +1,73 @@
 -- `product::summands` meets its contract: coordinates of accepted points, and their negations, may be multiplied. Assumes nothing.
-use mathlib.Core.Path.{◌≡◌, refl}
-use mathlib.Core.List.{List, ◌∷◌, ◌++◌}
+use mathlib.Core.Path.{◌≡◌}
+use mathlib.Core.List.{List, [], ◌++◌}
 use lib.Dec.{lit≤}
-use lib.Ieee.{Float}
+use lib.Ieee.{Float, neg}
+use borrow.Author.Rules.{rules}
+use Rattle.double.proofs.Laws.ExactProduct.{Factors}
+use Rattle.double.proofs.Laws.Sized.{Reach}
 use Rattle.double.proofs.Laws.Negated.{sized_neg}
 use Rattle.double.proofs.Laws.Roundoff.{factors_reach}
 use Rattle.point.specs.Accepted.{reach}
 use Rattle.geometry.proofs.Laws.Owned.{owned_within}
-use Rattle.geometry.specs.Product.{pair_of, summands_of}
-use Rattle.geometry.specs.Parts.{ExactProduct}
-use Rattle.geometry.specs.declared.product.Product.{Product}
+use Rattle.geometry.specs.Product.{summands_of}
 use Rattle.geometry.proofs.product.summands.Goals as goal
 
--- one entry after the other
-joined : {a b : Float} {l m : List Float} → a ≡ b → l ≡ m → a ∷ l ≡ b ∷ m
-joined e es = cc
+-- six pairs, one after the other
+joined : {a b c d e f u v w x y z : List Float} → a ≡ u → b ≡ v → c ≡ w → d ≡ x → e ≡ y → f ≡ z
+    → a ++ (b ++ (c ++ (d ++ (e ++ (f ++ []))))) ≡ u ++ (v ++ (w ++ (x ++ (y ++ (z ++ [])))))
+joined a b c d e f = rw (a, b, c, d, e, f)
 
-pair : (x y : Float) (r : Product) {l m : List Float} → ExactProduct x y r → l ≡ m → r.rounded ∷ r.roundoff ∷ l ≡ pair_of x y ++ m
-pair x y r e es = joined e.rounded (joined e.roundoff es)
+-- coordinates of accepted points, and their negations, may be multiplied
+factors : {x y : Float} → Reach reach x → Reach reach y → Factors x y
+factors X Y = factors_reach reach (lit≤ tt) X Y
 
-pub exact_product-a-requires : goal.exact_product-a-requires
-exact_product-a-requires c =
-    let q_within = owned_within _ c.well_formed.1.0.1.1.0.1 c.well_formed.1.0.1.1.1.0.1 c.requires.1 in
-    let r_within = owned_within _ c.well_formed.1.1.0.1.1.0.1 c.well_formed.1.1.0.1.1.1.0.1 c.requires.2 in
-    factors_reach reach (lit≤ tt) q_within.x r_within.y
+negated : {x : Float} → Reach reach x → Reach reach (neg x)
+negated X = sized_neg X
 
-pub exact_product-b-requires : goal.exact_product-b-requires
-exact_product-b-requires c =
-    let q_within = owned_within _ c.well_formed.1.0.1.1.0.1 c.well_formed.1.0.1.1.1.0.1 c.requires.1 in
-    let p_within = owned_within _ c.well_formed.0.1.1.0.1 c.well_formed.0.1.1.1.0.1 c.requires.0 in
-    factors_reach reach (lit≤ tt) (sized_neg q_within.x) p_within.y
+pub pair-requires : goal.pair-requires
+pair-requires c =
+    let P = owned_within _ c.well_formed.0.1.1.0.1 c.well_formed.0.1.1.1.0.1 c.requires.0 in
+    let Q = owned_within _ c.well_formed.1.0.1.1.0.1 c.well_formed.1.0.1.1.1.0.1 c.requires.1 in
+    let R = owned_within _ c.well_formed.1.1.0.1.1.0.1 c.well_formed.1.1.0.1.1.1.0.1 c.requires.2 in
+    search (rules, factors)
 
-pub exact_product-c-requires : goal.exact_product-c-requires
-exact_product-c-requires c =
-    let p_within = owned_within _ c.well_formed.0.1.1.0.1 c.well_formed.0.1.1.1.0.1 c.requires.0 in
-    let r_within = owned_within _ c.well_formed.1.1.0.1.1.0.1 c.well_formed.1.1.0.1.1.1.0.1 c.requires.2 in
-    factors_reach reach (lit≤ tt) (sized_neg p_within.x) r_within.y
+pub pair-requires-2 : goal.pair-requires-2
+pair-requires-2 c =
+    let P = owned_within _ c.well_formed.0.1.1.0.1 c.well_formed.0.1.1.1.0.1 c.requires.0 in
+    let Q = owned_within _ c.well_formed.1.0.1.1.0.1 c.well_formed.1.0.1.1.1.0.1 c.requires.1 in
+    let R = owned_within _ c.well_formed.1.1.0.1.1.0.1 c.well_formed.1.1.0.1.1.1.0.1 c.requires.2 in
+    search (rules, factors, negated)
 
-pub exact_product-d-requires : goal.exact_product-d-requires
-exact_product-d-requires c =
-    let q_within = owned_within _ c.well_formed.1.0.1.1.0.1 c.well_formed.1.0.1.1.1.0.1 c.requires.1 in
-    let r_within = owned_within _ c.well_formed.1.1.0.1.1.0.1 c.well_formed.1.1.0.1.1.1.0.1 c.requires.2 in
-    factors_reach reach (lit≤ tt) (sized_neg q_within.y) r_within.x
+pub pair-requires-3 : goal.pair-requires-3
+pair-requires-3 c =
+    let P = owned_within _ c.well_formed.0.1.1.0.1 c.well_formed.0.1.1.1.0.1 c.requires.0 in
+    let Q = owned_within _ c.well_formed.1.0.1.1.0.1 c.well_formed.1.0.1.1.1.0.1 c.requires.1 in
+    let R = owned_within _ c.well_formed.1.1.0.1.1.0.1 c.well_formed.1.1.0.1.1.1.0.1 c.requires.2 in
+    search (rules, factors, negated)
 
-pub exact_product-e-requires : goal.exact_product-e-requires
-exact_product-e-requires c =
-    let q_within = owned_within _ c.well_formed.1.0.1.1.0.1 c.well_formed.1.0.1.1.1.0.1 c.requires.1 in
-    let p_within = owned_within _ c.well_formed.0.1.1.0.1 c.well_formed.0.1.1.1.0.1 c.requires.0 in
-    factors_reach reach (lit≤ tt) q_within.y p_within.x
+pub pair-requires-4 : goal.pair-requires-4
+pair-requires-4 c =
+    let P = owned_within _ c.well_formed.0.1.1.0.1 c.well_formed.0.1.1.1.0.1 c.requires.0 in
+    let Q = owned_within _ c.well_formed.1.0.1.1.0.1 c.well_formed.1.0.1.1.1.0.1 c.requires.1 in
+    let R = owned_within _ c.well_formed.1.1.0.1.1.0.1 c.well_formed.1.1.0.1.1.1.0.1 c.requires.2 in
+    search (rules, factors, negated)
 
-pub exact_product-f-requires : goal.exact_product-f-requires
-exact_product-f-requires c =
-    let p_within = owned_within _ c.well_formed.0.1.1.0.1 c.well_formed.0.1.1.1.0.1 c.requires.0 in
-    let r_within = owned_within _ c.well_formed.1.1.0.1.1.0.1 c.well_formed.1.1.0.1.1.1.0.1 c.requires.2 in
-    factors_reach reach (lit≤ tt) p_within.y r_within.x
+pub pair-requires-5 : goal.pair-requires-5
+pair-requires-5 c =
+    let P = owned_within _ c.well_formed.0.1.1.0.1 c.well_formed.0.1.1.1.0.1 c.requires.0 in
+    let Q = owned_within _ c.well_formed.1.0.1.1.0.1 c.well_formed.1.0.1.1.1.0.1 c.requires.1 in
+    let R = owned_within _ c.well_formed.1.1.0.1.1.0.1 c.well_formed.1.1.0.1.1.1.0.1 c.requires.2 in
+    search (rules, factors)
+
+pub pair-requires-6 : goal.pair-requires-6
+pair-requires-6 c =
+    let P = owned_within _ c.well_formed.0.1.1.0.1 c.well_formed.0.1.1.1.0.1 c.requires.0 in
+    let Q = owned_within _ c.well_formed.1.0.1.1.0.1 c.well_formed.1.0.1.1.1.0.1 c.requires.1 in
+    let R = owned_within _ c.well_formed.1.1.0.1.1.0.1 c.well_formed.1.1.0.1.1.1.0.1 c.requires.2 in
+    search (rules, factors)
 
 pub returns : goal.returns
 unfolding summands_of
 returns c =
-    pair _ _ _ c.exact_product-a.ensures
-    (pair _ _ _ c.exact_product-b.ensures
-    (pair _ _ _ c.exact_product-c.ensures
-    (pair _ _ _ c.exact_product-d.ensures
-    (pair _ _ _ c.exact_product-e.ensures
-    (pair _ _ _ c.exact_product-f.ensures refl)))))
+    joined c.pair.ensures c.pair-2.ensures c.pair-3.ensures c.pair-4.ensures c.pair-5.ensures c.pair-6.ensures

@@ -1,44 +1,17 @@
--- `turning::exact` meets its contract: the run on the twelve summands is not refused and decides within the budget. Assumes nothing.
-use mathlib.Core.Path.{sym, subst}
-use lib.Dec.{T}
-use Rattle.point.specs.Accepted.{reach}
-use Rattle.point.proofs.Laws.Within.{Within, accepted_within_lem}
-use Rattle.geometry.proofs.Laws.Exact.{exact_refused, exact_undecided, exact_decided}
+-- `turning::exact` meets its contract: the sum rule on the twelve summands, which are finite. Assumes nothing.
+use mathlib.Core.Path.{◌∙◌}
+use Rattle.geometry.proofs.Laws.Owned.{owned_within}
+use Rattle.geometry.proofs.Laws.Exact.{exact_real, exact_counted}
 use Rattle.geometry.proofs.turning.exact.Goals as goal
 
-pub returns-in_default : goal.returns-in_default
-returns-in_default c =
-    let held : Within reach c.args.p × Within reach c.args.q × Within reach c.args.r = (let p = c.well_formed.0.1.1 in
+pub run_out-told-requires : goal.run_out-told-requires
+run_out-told-requires c =
+    let p = c.well_formed.0.1.1 in
     let q = c.well_formed.1.0.1.1 in
-    let r = c.well_formed.1.1.0.1.1 in (
-      accepted_within_lem c.args.p (subst T (sym p.0.1) tt) (subst T (sym p.1.0.1) tt) c.requires.0,
-      accepted_within_lem c.args.q (subst T (sym q.0.1) tt) (subst T (sym q.1.0.1) tt) c.requires.1,
-      accepted_within_lem c.args.r (subst T (sym r.0.1) tt) (subst T (sym r.1.0.1) tt) c.requires.2,
-    )) in
-    let (P, Q, R) = held in
-    exact_refused _ _ _ P Q R c.summands-list.ensures c.run.ensures c.in_default.is
-
-pub returns-in_default-v : goal.returns-in_default-v
-returns-in_default-v c =
-    let held : Within reach c.args.p × Within reach c.args.q × Within reach c.args.r = (let p = c.well_formed.0.1.1 in
-    let q = c.well_formed.1.0.1.1 in
-    let r = c.well_formed.1.1.0.1.1 in (
-      accepted_within_lem c.args.p (subst T (sym p.0.1) tt) (subst T (sym p.1.0.1) tt) c.requires.0,
-      accepted_within_lem c.args.q (subst T (sym q.0.1) tt) (subst T (sym q.1.0.1) tt) c.requires.1,
-      accepted_within_lem c.args.r (subst T (sym r.0.1) tt) (subst T (sym r.1.0.1) tt) c.requires.2,
-    )) in
-    let (P, Q, R) = held in
-    exact_undecided _ _ _ P Q R c.summands-list.ensures c.run.ensures c.in-Done.is
-    c.in_default-v.is
+    let r = c.well_formed.1.1.0.1.1 in
+    exact_real _ _ _ (c.as_flattened_mut.ensures.value ∙ c.summands-pairs.ensures)
+    (owned_within _ p.0.1 p.1.0.1 c.requires.0) (owned_within _ q.0.1 q.1.0.1 c.requires.1) (owned_within _ r.0.1 r.1.0.1 c.requires.2)
 
 pub returns : goal.returns
 returns c =
-    let held : Within reach c.args.p × Within reach c.args.q × Within reach c.args.r = (let p = c.well_formed.0.1.1 in
-    let q = c.well_formed.1.0.1.1 in
-    let r = c.well_formed.1.1.0.1.1 in (
-      accepted_within_lem c.args.p (subst T (sym p.0.1) tt) (subst T (sym p.1.0.1) tt) c.requires.0,
-      accepted_within_lem c.args.q (subst T (sym q.0.1) tt) (subst T (sym q.1.0.1) tt) c.requires.1,
-      accepted_within_lem c.args.r (subst T (sym r.0.1) tt) (subst T (sym r.1.0.1) tt) c.requires.2,
-    )) in
-    let (P, Q, R) = held in
-    exact_decided _ _ _ P Q R c.summands-list.ensures c.run.ensures c.in-Done.is c.in-Decided.is
+    exact_counted _ _ _ (c.as_flattened_mut.ensures.value ∙ c.summands-pairs.ensures) c.run_out-told.ensures

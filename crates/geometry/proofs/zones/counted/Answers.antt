@@ -1,58 +1,67 @@
--- `zones::counted` meets its contract. The loop's invariant: the counts are those of the edges from edge k on. Assumes nothing.
-use Prim.Native.Nat.{ℕ, ◌-◌}
+-- `zones::counted` meets its contract. Assumes nothing.
+use Prim.Native.Nat.{ℕ, ◌+◌, ◌-◌, ◌≤◌, ◌<◌}
 use mathlib.Core.Path.{◌≡◌, sym, ap, ap₂, subst, ◌∙◌}
+use mathlib.Core.Bool.{cond}
+use mathlib.Core.List.{List}
 use native.Mathlib.Omega.{arith}
+use lib.Dec.{ltb}
 use lib.ListN.{drop}
-use borrow.Author.Rules.{rules}
+use lib.Ieee.{Float}
+use borrow.Author.Tests.{lt-ltb, le-ltb}
 use Rattle.point.specs.Accepted.{Accepted}
 use Rattle.point.specs.Spot.{spot_of}
-use Rattle.geometry.specs.Zone.{corners_of, corner_at, next_of}
+use Rattle.point.specs.declared.Point.{Point}
+use Rattle.geometry.specs.Zone.{corners_of, corner_at, next_of, Zoned}
 use Rattle.ground.specs.Edge.{edge, edges_of, is_up, is_down}
-use Rattle.geometry.specs.Parts.{crossing_of}
-use Rattle.geometry.specs.Parts.{with_edge, counts_of}
+use Rattle.geometry.specs.Parts.{crossing_of, with_edge, counts_of}
 use Rattle.geometry.specs.declared.zones.Counts.{Counts}
 use Rattle.geometry.proofs.Laws.Zone.{next_inside, counts_end, counts_before, count_few}
 use Rattle.geometry.proofs.zones.counted.Goals as goal
 
-pub loop-k-init : goal.loop-k-init
-loop-k-init c =
-    (search rules, counts_end _ _ _ c.requires.0.corners)
+-- the edge that ends where edge k begins is the one before it
+before : (xs : List Float) (n k : ℕ) → 0 < k → corner_at xs (cond (ltb k n) k 0) ≡ corner_at xs (next_of n (k - 1))
+before xs n k h = let e : k ≡ k - 1 + 1 = omega arith in ap (λ (i : ℕ). corner_at xs (cond (ltb i n) i 0)) e
 
-pub crosses_at-requires : goal.crosses_at-requires
-crosses_at-requires c =
-    let z = c.requires.0 in
-    let k = c.loop-k.k - 1 in
-    let i = next_inside k c.args.n (omega arith) in
-    let j = c.next_of.ensures in record {
-      k_lt_most = (omega arith, omega arith, omega (arith, j, i), omega (arith, j, i));
-      accepted = (
-        z.accepted k (omega arith),
-        subst (λ (j : ℕ). Accepted (corner_at c.args.corners.now j)) (sym j) (z.accepted (next_of c.args.n k) i),
-        c.requires.1,
-      );
-    }
+ends : (xs : List Float) (n k : ℕ) → Zoned xs n → 0 < k → k ≤ n → Accepted (corner_at xs (next_of n (k - 1)))
+ends xs n k z h l = z.accepted _ (next_inside (k - 1) n (omega arith))
+
+pub loop-k-init : goal.loop-k-init
+loop-k-init c = (
+  counts_end _ _ _ c.requires.0.corners,
+  c.corner_at-to.ensures ∙ ap (λ (b : _). corner_at c.args.corners.now (cond b c.args.n 0)) (sym (le-ltb c.args.n c.args.n (omega arith))),
+)
+
+pub crosses-requires : goal.crosses-requires
+crosses-requires c =
+    let z = c.requires.0 in (
+      subst Accepted (sym c.corner_at-from.ensures) (z.accepted _ (omega arith)),
+      subst Accepted (sym (c.loop-k.invariant.1 ∙ before c.args.corners.now c.args.n c.loop-k.k (omega arith))) (ends _ _ c.loop-k.k z (omega arith) (omega arith)),
+      c.requires.1,
+    )
 
 pub with_edge-c-requires : goal.with_edge-c-requires
 with_edge-c-requires c =
     let z = c.requires.0 in
     let few = count_few c.args.corners.now c.args.n c.args.p z.corners in (
-      omega (arith, few is_up c.loop-k.k, ap (λ (t : Counts). t.ups) c.loop-k.invariant.1, z.few),
-      omega (arith, few is_down c.loop-k.k, ap (λ (t : Counts). t.downs) c.loop-k.invariant.1, z.few),
+      omega (arith, few is_up c.loop-k.k, ap (λ (t : Counts). t.ups) c.loop-k.invariant.0, z.few),
+      omega (arith, few is_down c.loop-k.k, ap (λ (t : Counts). t.downs) c.loop-k.invariant.0, z.few),
     )
 
 pub loop-k-preserved : goal.loop-k-preserved
 loop-k-preserved c =
     let xs = c.args.corners.now in
-    let k = c.loop-k.k - 1 in (
-      search rules,
+    let k = c.loop-k.k in
+    let last : k - 1 < c.args.n = omega arith in (
       c.with_edge-c.ensures
-          ∙ ap₂ with_edge c.loop-k.invariant.1
-          (c.crosses_at.ensures
-          ∙ ap (λ (j : ℕ). crossing_of (edge (spot_of (corner_at xs k)) (spot_of (corner_at xs j))) (spot_of c.args.p)) c.next_of.ensures)
-          ∙ counts_before xs c.args.n c.args.p c.requires.0.corners k c.loop-k.k (omega arith) (omega arith),
+          ∙ ap₂ with_edge c.loop-k.invariant.0
+          (c.crosses.ensures
+          ∙ ap₂ (λ (a b : Point). crossing_of (edge (spot_of a) (spot_of b)) (spot_of c.args.p)) c.corner_at-from.ensures
+          (c.loop-k.invariant.1 ∙ before xs c.args.n k (omega arith)))
+          ∙ counts_before xs c.args.n c.args.p c.requires.0.corners (k - 1) k (omega arith) last,
+      c.corner_at-from.ensures ∙ ap (λ (b : _). corner_at xs (cond b (k - 1) 0)) (sym (lt-ltb (k - 1) c.args.n last)),
     )
 
 pub returns : goal.returns
 returns c =
     let e : c.loop-k.k ≡ 0 = omega arith in
-    c.loop-k.invariant.1 ∙ ap (λ (k : ℕ). counts_of (drop k (edges_of (corners_of c.args.corners.now))) (spot_of c.args.p)) e
+    c.loop-k.invariant.0 ∙ ap (λ (k : ℕ). counts_of (drop k (edges_of (corners_of c.args.corners.now))) (spot_of c.args.p)) e

@@ -1,81 +1,68 @@
--- `zones::place` meets its contract. The loop's invariant: the walk from edge k on answers what the whole walk does. Assumes nothing.
-use Prim.Native.Nat.{ℕ, ◌≤◌, ◌<◌}
-use mathlib.Core.Path.{◌≡◌, sym, ap, subst, ◌∙◌}
-use native.Mathlib.Omega.{arith}
-use borrow.Author.Rules.{rules}
+-- `zones::place` meets its contract. Assumes nothing.
+use mathlib.Core.Path.{◌≡◌, sym, ap, ap₂, subst, ◌∙◌}
 use Rattle.point.specs.Accepted.{Accepted}
 use Rattle.point.specs.Spot.{spot_of}
-use Rattle.geometry.specs.Zone.{place_in, corners_of, corner_at, next_of, place_said}
-use Rattle.ground.specs.Edge.{edge, edges_of, on_edge}
+use Rattle.point.specs.declared.Point.{Point}
+use Rattle.geometry.specs.Zone.{corner_at, next_of, place_said}
+use Rattle.ground.specs.Edge.{edge, on_edge}
 use Rattle.ground.specs.Zone.{border}
-use Rattle.geometry.proofs.Laws.Zone.{next_inside, off_of, walk_start, walk_here, walk_later, walk_end}
+use Rattle.geometry.proofs.Laws.Zone.{next_inside, walk_start, walk_here, walk_later, walk_end}
 use Rattle.geometry.proofs.Laws.Zone.{off_inside, off_outside}
 use Rattle.geometry.proofs.zones.place.Goals as goal
 
 pub loop-k-init : goal.loop-k-init
 loop-k-init c =
-    (search rules, walk_start _ _)
+    walk_start _ _
 
-pub on_edge_at-requires : goal.on_edge_at-requires
-on_edge_at-requires c =
+pub meets-requires : goal.meets-requires
+meets-requires c =
     let z = c.requires.0 in
-    let k = c.loop-k.k in
-    let i = next_inside k c.args.n (omega arith) in
-    let j = c.next_of.ensures in record {
-      k_lt_most = (omega arith, omega arith, omega (arith, j, i), omega (arith, j, i));
-      accepted = (
-        z.accepted k (omega arith),
-        subst (λ (j : ℕ). Accepted (corner_at c.args.corners.now j)) (sym j) (z.accepted (next_of c.args.n k) i),
-        c.requires.1,
-      );
-    }
+    let k = c.loop-k.k in (
+      subst Accepted (sym c.corner_at.ensures) (z.accepted k c.loop-k-test.true),
+      subst Accepted (sym (c.corner_at-in-loop-k.ensures ∙ ap (corner_at c.args.corners.now) c.next_of.ensures))
+          (z.accepted (next_of c.args.n k) (next_inside k c.args.n c.loop-k-test.true)),
+      c.requires.1,
+    )
 
 pub loop-k-preserved : goal.loop-k-preserved
 loop-k-preserved c =
     let xs = c.args.corners.now in
-    let k = c.loop-k.k in
-    let e = ap (λ (j : ℕ). on_edge (edge (spot_of (corner_at xs k)) (spot_of (corner_at xs j))) (spot_of c.args.p)) c.next_of.ensures in
-    let off = sym e ∙ sym c.on_edge_at.ensures ∙ c.if-on_edge_at.false in (
-      search rules,
-      sym (walk_later xs c.args.n c.args.p c.requires.0.corners k (omega arith) off) ∙ c.loop-k.invariant.1,
-    )
+    let at = ap₂ (λ (a b : Point). on_edge (edge (spot_of a) (spot_of b)) (spot_of c.args.p)) c.corner_at.ensures
+    (c.corner_at-in-loop-k.ensures ∙ ap (corner_at xs) c.next_of.ensures) in
+    sym (walk_later xs c.args.n c.args.p c.requires.0.corners c.loop-k.k c.loop-k-test.true (sym at ∙ sym c.meets.ensures ∙ c.if-meets.false))
+    ∙ c.loop-k.invariant
 
-pub returns-then-edge-n : goal.returns-then-edge-n
+pub returns-in-Some : goal.returns-in-Some
 unfolding place_said
-returns-then-edge-n c =
-    let found : (c.if-n-k.edge < c.args.n → border c.if-n-k.edge ≡ place_in c.args.corners.now c.args.p) = ((λ h. let xs = c.args.corners.now in
-    elim c.if-n-k.branch [
-      | goal.then-n-k w ↦ let z : ⊥ = omega arith in absurd z
-      | goal.else-n-k+then-on_edge_at w ↦
-          let k = c.loop-k.k in
-          ap border w.edge-is
-          ∙ sym (walk_here xs c.args.n c.args.p c.requires.0.corners k (omega arith)
-          (ap (λ (j : ℕ). on_edge (edge (spot_of (corner_at xs k)) (spot_of (corner_at xs j))) (spot_of c.args.p)) (sym w.next_of.ensures)
-          ∙ sym w.on_edge_at.ensures ∙ w.if-on_edge_at.true))
-          ∙ c.loop-k.invariant.1
-    ])) in
-    found c.if-edge-n.true
+returns-in-Some c =
+    let xs = c.args.corners.now in
+    elim c.loop-k-test.branch [
+      | goal.then-loop-k-test+then-meets w ↦
+          let same : c.in-Some.k ≡ c.loop-k.k = cc in
+          let at = ap₂ (λ (a b : Point). on_edge (edge (spot_of a) (spot_of b)) (spot_of c.args.p)) w.corner_at.ensures
+          (w.corner_at-in-loop-k.ensures ∙ ap (corner_at xs) w.next_of.ensures) in
+          ap border same
+          ∙ sym (walk_here xs c.args.n c.args.p c.requires.0.corners c.loop-k.k w.loop-k-test.true (sym at ∙ sym w.meets.ensures ∙ w.if-meets.true))
+          ∙ c.loop-k.invariant
+      | goal.else-loop-k-test w ↦ let z : ⊥ = cc in absurd z
+    ]
 
 pub returns-then-c : goal.returns-then-c
 unfolding place_said
 returns-then-c c =
-    let missed : (let es = edges_of (corners_of c.args.corners.now) in
-    c.args.n ≤ c.if-n-k.edge → off_of es (spot_of c.args.p) ≡ place_in c.args.corners.now c.args.p) = ((λ h. elim c.if-n-k.branch [
-      | goal.then-n-k w ↦
-          sym (walk_end c.args.corners.now c.args.n c.args.p c.requires.0.corners c.loop-k.k (omega arith))
-          ∙ c.loop-k.invariant.1
-      | goal.else-n-k+then-on_edge_at w ↦ let z : ⊥ = omega arith in absurd z
-    ])) in
-    off_inside _ _ _ c.counted-c.ensures c.if-c.true ∙ missed c.if-edge-n.false
+    off_inside _ _ _ c.counted-c.ensures c.if-c.true
+    ∙ elim c.loop-k-test.branch [
+      | goal.then-loop-k-test+then-meets w ↦ let z : ⊥ = cc in absurd z
+      | goal.else-loop-k-test w ↦
+          sym (walk_end c.args.corners.now c.args.n c.args.p c.requires.0.corners c.loop-k.k w.loop-k-test.false) ∙ c.loop-k.invariant
+    ]
 
-pub returns : goal.returns
+pub returns-else-c : goal.returns-else-c
 unfolding place_said
-returns c =
-    let missed : (let es = edges_of (corners_of c.args.corners.now) in
-    c.args.n ≤ c.if-n-k.edge → off_of es (spot_of c.args.p) ≡ place_in c.args.corners.now c.args.p) = ((λ h. elim c.if-n-k.branch [
-      | goal.then-n-k w ↦
-          sym (walk_end c.args.corners.now c.args.n c.args.p c.requires.0.corners c.loop-k.k (omega arith))
-          ∙ c.loop-k.invariant.1
-      | goal.else-n-k+then-on_edge_at w ↦ let z : ⊥ = omega arith in absurd z
-    ])) in
-    off_outside _ _ _ c.counted-c.ensures c.if-c.false ∙ missed c.if-edge-n.false
+returns-else-c c =
+    off_outside _ _ _ c.counted-c.ensures c.if-c.false
+    ∙ elim c.loop-k-test.branch [
+      | goal.then-loop-k-test+then-meets w ↦ let z : ⊥ = cc in absurd z
+      | goal.else-loop-k-test w ↦
+          sym (walk_end c.args.corners.now c.args.n c.args.p c.requires.0.corners c.loop-k.k w.loop-k-test.false) ∙ c.loop-k.invariant
+    ]

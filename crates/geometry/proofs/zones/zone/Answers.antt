@@ -1,10 +1,11 @@
 -- `zones::zone` meets its contract: the refusals in their order, and then the place. Assumes nothing.
 use mathlib.Core.Path.{sym, ap, ◌∙◌}
+use Rattle.std.proofs.lemmas.Result.{err_from_is_err_and}
 use Rattle.geometry.specs.Zone.{zone_said}
-use Rattle.geometry.specs.Parts.{fault_said}
 use Rattle.geometry.proofs.Laws.Zone.{zone_odd, zone_small, zone_large, zone_x, zone_y, zone_corner, zone_place, zone_zoned}
 use Rattle.point.specs.Accepted.{Accepted}
 use Rattle.geometry.proofs.zones.zone.Goals as goal
+use Rattle.geometry.proofs.zones.zone.Goals.{After-corners_accepted}
 
 pub returns-then-corners-eq1 : goal.returns-then-corners-eq1
 unfolding zone_said
@@ -36,31 +37,23 @@ returns-then-not-accepted-2 c =
     (sym c.accepted.ensures ∙ c.if-not-accepted.false)
     (sym c.accepted-2.ensures ∙ c.if-not-accepted-2.true)
 
+-- the point, once both its coordinates are accepted
+both : (c : After-corners_accepted) → Accepted c.args.p
+both c = record { x = sym c.accepted.ensures ∙ c.if-not-accepted.false; y = sym c.accepted-2.ensures ∙ c.if-not-accepted-2.false }
+
+pub returns-in_err-corners_accepted : goal.returns-in_err-corners_accepted
+returns-in_err-corners_accepted c =
+    let e = err_from_is_err_and c.from_residual.result c.from_residual.ensures.1 in
+    rw (e.1, e.2) (zone_corner _ _ c.if-corners-eq1.false c.if-n-lt-FEWEST.false c.if-n-gt-MOST.false
+    (both (goal.at.returns-in_err-corners_accepted c).After-corners_accepted) _ c.in_err-corners_accepted.ensures)
+
 pub place-requires : goal.place-requires
-place-requires c =
-    let accepts : Accepted c.args.p = (record {
-      x = sym c.accepted.ensures ∙ c.if-not-accepted.false;
-      y = sym c.accepted-2.ensures ∙ c.if-not-accepted-2.false;
-    }) in (
-      zone_zoned _ c.if-corners-eq1.false c.if-n-lt-FEWEST.false c.if-n-gt-MOST.false
-          (ap fault_said (sym c.in-None.is) ∙ c.corner_fault.ensures),
-      accepts,
-    )
+place-requires c = (
+  zone_zoned _ c.if-corners-eq1.false c.if-n-lt-FEWEST.false c.if-n-gt-MOST.false c.in_ok-corners_accepted.ensures,
+  both (goal.at.place-requires c).After-corners_accepted,
+)
 
-pub returns-in-At : goal.returns-in-At
-returns-in-At c =
-    let accepts : Accepted c.args.p = (record {
-      x = sym c.accepted.ensures ∙ c.if-not-accepted.false;
-      y = sym c.accepted-2.ensures ∙ c.if-not-accepted-2.false;
-    }) in
-    zone_corner _ _ c.if-corners-eq1.false c.if-n-lt-FEWEST.false c.if-n-gt-MOST.false accepts _
-    (ap fault_said (sym c.in-At.is) ∙ c.corner_fault.ensures)
-
-pub returns-in-None : goal.returns-in-None
-returns-in-None c =
-    let accepts : Accepted c.args.p = (record {
-      x = sym c.accepted.ensures ∙ c.if-not-accepted.false;
-      y = sym c.accepted-2.ensures ∙ c.if-not-accepted-2.false;
-    }) in
-    zone_place _ _ c.if-corners-eq1.false c.if-n-lt-FEWEST.false c.if-n-gt-MOST.false accepts
-    (ap fault_said (sym c.in-None.is) ∙ c.corner_fault.ensures) _ c.place.ensures
+pub returns : goal.returns
+returns c =
+    zone_place _ _ c.if-corners-eq1.false c.if-n-lt-FEWEST.false c.if-n-gt-MOST.false
+    (both (goal.at.returns c).After-corners_accepted) c.in_ok-corners_accepted.ensures _ c.place.ensures

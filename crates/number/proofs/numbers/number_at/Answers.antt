@@ -1,75 +1,58 @@
 -- `number::numbers::number_at` meets its contract: the groups read, with those that the other bytes begin with, are the number. Assumes
 -- nothing.
-use Prim.Native.Nat.{ℕ, ◌-◌, ◌+◌, ◌*◌, ◌<◌}
-use mathlib.Core.Path.{◌≡◌, refl, ap, ◌∙◌}
+use Prim.Native.Nat.{◌-◌}
+use mathlib.Core.Path.{ap, refl, ◌∙◌}
 use native.Mathlib.Omega.{arith}
-use lib.Dec.{ltb}
-use Rattle.number.proofs.Laws.Number.{at_start, at_next, weight_small, weight_last, value_fits, first_zero, group_shortest, placed_at, number_ends, number_zero, number_value, number_tenth}
+use borrow.Author.Rules.{rules}
+use lib.ListN.{length}
+use Rattle.std.proofs.lemmas.Slice.{between_to_end}
+use Rattle.number.specs.Number.{heard}
+use Rattle.number.proofs.Laws.Number.{at_start, at_next, weight_small, value_fits, number_past, number_ends, number_zero, number_value, number_tenth}
 use Rattle.number.proofs.numbers.number_at.Goals as goal
 
-pub loop-turn-init : goal.loop-turn-init
-loop-turn-init c = at_start _ _
+pub returns-in_default : goal.returns-in_default
+returns-in_default c =
+    ap heard c.refused.ensures ∙ number_past _ _ (search (rules, c.in_default.ensures.lookup))
 
-pub returns-then-bytes-at : goal.returns-then-bytes-at
-returns-then-bytes-at c = c.refused.ensures ∙ number_ends _ _ _ _ _ _ c.loop-turn.invariant c.if-bytes-at.true
+pub loop-turn-init : goal.loop-turn-init
+loop-turn-init c = at_start _ _ _ (c.in-Some.ensures.lookup.0.2 ∙ between_to_end _ c.args.start (length c.args.bytes.now) (omega arith))
+
+pub returns-then-turn-eq-FULL : goal.returns-then-turn-eq-FULL
+returns-then-turn-eq-FULL c =
+    c.tenth.ensures ∙ number_tenth _ _ _ _ _ _ c.loop-turn.invariant c.loop-turn-test.true _ refl c.if-turn-eq-FULL.true
 
 pub returns-then-turn-gt0 : goal.returns-then-turn-gt0
 returns-then-turn-gt0 c =
-    c.refused-then-turn-gt0.ensures
-    ∙ number_zero _ _ _ _ _ _ c.loop-turn.invariant c.if-bytes-at.false _ c.wide-b.ensures
-    c.loop-turn-test.true
-    c.if-b-lt-TOP.true c.if-b-eq0.true c.if-turn-gt0.true
-
-pub returns-then-b-eq0 : goal.returns-then-b-eq0
-returns-then-b-eq0 c =
-    let z : c.wide-b.result ≡ 0 = c.if-b-eq0.true in
-    let e : c.loop-turn.turn ≡ 0 = omega (arith, c.if-turn-gt0.false) in
-    let o : c.loop-turn.value ≡ 0 = first_zero c.loop-turn.invariant e in
-    let p : 0 ≡ c.loop-turn.value + c.wide-b.result * c.loop-turn.weight = rw (z, o) (omega arith) in
-    ap (λ (n : ℕ). placed_at n (c.loop-turn.at + 1)) p
-    ∙ number_value _ _ _ _ _ _ c.loop-turn.invariant c.if-bytes-at.false _ c.wide-b.ensures
-    c.loop-turn-test.true
-    c.if-b-lt-TOP.true (rw e refl)
+    ap heard c.refused-then-turn-gt0.ensures
+    ∙ number_zero _ _ _ _ _ _ c.loop-turn.invariant c.loop-turn-test.true _ c.from-b.ensures
+    c.if-turn-eq-FULL.false c.if-b-eq0.true c.if-turn-gt0.true
 
 pub overflow_mul-result : goal.overflow_mul-result
-overflow_mul-result c = (value_fits c.loop-turn.invariant c.loop-turn-test.true c.wide-b.result c.if-b-lt-TOP.true).0
+overflow_mul-result c = (value_fits c.loop-turn.invariant c.if-turn-eq-FULL.false c.from-b.result c.if-b-lt-TOP.true).0
 
-pub overflow_add-result-then-b-lt-TOP : goal.overflow_add-result-then-b-lt-TOP
-overflow_add-result-then-b-lt-TOP c =
-    (value_fits c.loop-turn.invariant c.loop-turn-test.true c.wide-b.result c.if-b-lt-TOP.true).1
+pub overflow_add-result : goal.overflow_add-result
+overflow_add-result c = (value_fits c.loop-turn.invariant c.if-turn-eq-FULL.false c.from-b.result c.if-b-lt-TOP.true).1
 
 pub returns-then-b-lt-TOP : goal.returns-then-b-lt-TOP
 returns-then-b-lt-TOP c =
-    number_value _ _ _ _ _ _ c.loop-turn.invariant c.if-bytes-at.false _ c.wide-b.ensures
-    c.loop-turn-test.true
-    c.if-b-lt-TOP.true (group_shortest (ltb 0 c.loop-turn.turn) c.if-b-eq0.false)
+    number_value _ _ _ _ _ _ c.loop-turn.invariant c.loop-turn-test.true _ c.from-b.ensures c.if-turn-eq-FULL.false
+    c.if-b-lt-TOP.true (λ z. grind (arith, c.else-b-eq0.either))
 
 pub overflow_mul-value : goal.overflow_mul-value
 overflow_mul-value c =
-    let low : c.wide-b.result - 128 < 128 = omega (arith, c.type_inv.bytes c.loop-turn.at, c.wide-b.ensures) in
-    (value_fits c.loop-turn.invariant c.loop-turn-test.true (c.wide-b.result - 128) low).0
+    (value_fits c.loop-turn.invariant c.if-turn-eq-FULL.false (c.from-b.result - 128) (omega arith)).0
 
-pub overflow_add-value : goal.overflow_add-value
-overflow_add-value c =
-    let low : c.wide-b.result - 128 < 128 = omega (arith, c.type_inv.bytes c.loop-turn.at, c.wide-b.ensures) in
-    (value_fits c.loop-turn.invariant c.loop-turn-test.true (c.wide-b.result - 128) low).1
+pub overflow_add-value-in-loop-turn : goal.overflow_add-value-in-loop-turn
+overflow_add-value-in-loop-turn c =
+    (value_fits c.loop-turn.invariant c.if-turn-eq-FULL.false (c.from-b.result - 128) (omega arith)).1
 
 pub overflow_mul-weight : goal.overflow_mul-weight
-overflow_mul-weight c = omega (arith, weight_small c.loop-turn.invariant c.loop-turn-test.true)
+overflow_mul-weight c = omega (arith, weight_small c.loop-turn.invariant c.if-turn-eq-FULL.false)
 
 pub loop-turn-preserved : goal.loop-turn-preserved
 loop-turn-preserved c =
-    let low : c.wide-b.result - 128 < 128 = omega (arith, c.type_inv.bytes c.loop-turn.at, c.wide-b.ensures) in
-    at_next _ _ _ _ _ _ c.loop-turn.invariant c.if-bytes-at.false _ c.wide-b.ensures c.loop-turn-test.true
-    c.if-b-lt-TOP.false (omega (arith, low))
-
-pub returns-then-bytes-at-2 : goal.returns-then-bytes-at-2
-returns-then-bytes-at-2 c = c.refused-then-bytes-at-2.ensures ∙ number_ends _ _ _ _ _ _ c.loop-turn.invariant c.if-bytes-at-2.true
-
-pub overflow_add-value-2 : goal.overflow_add-value-2
-overflow_add-value-2 c = omega (arith, weight_last c.loop-turn.invariant c.loop-turn-test.false)
+    at_next _ _ _ _ _ _ c.loop-turn.invariant c.loop-turn-test.true _ c.from-b.ensures c.if-turn-eq-FULL.false
+    c.if-b-lt-TOP.false (omega arith)
 
 pub returns : goal.returns
-returns c =
-    c.tenth.ensures
-    ∙ number_tenth _ _ _ _ _ _ c.loop-turn.invariant c.if-bytes-at-2.false _ refl c.loop-turn-test.false
+returns c = ap heard c.refused-2.ensures ∙ number_ends _ _ _ _ _ _ c.loop-turn.invariant c.loop-turn-test.false

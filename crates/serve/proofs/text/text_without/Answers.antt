@@ -3,8 +3,8 @@ use Rattle.std.proofs.Common.{◌∙◌}
 use Rattle.serve.proofs.Laws.Printed.{corners_printed, refused_printed}
 use Rattle.serve.proofs.text.text_without.Goals as goal
 
-pub returns-in-Corners : goal.returns-in-Corners
-returns-in-Corners c = (c.put.ensures.stands ∙ corners_printed _ _ c.judge.ensures _ c.in-Corners.is, c.put.ensures.kept)
+pub returns-in-Ok : goal.returns-in-Ok
+returns-in-Ok c = c.set.ensures ∙ corners_printed _ _ c.judge.ensures _ c.in-Ok.is
 
-pub returns-in-Refused : goal.returns-in-Refused
-returns-in-Refused c = (c.put_refusal.ensures.0 ∙ refused_printed _ _ c.judge.ensures _ c.in-Refused.is _, c.put_refusal.ensures.1)
+pub returns-in-Err : goal.returns-in-Err
+returns-in-Err c = c.set_refusal.ensures ∙ refused_printed _ _ c.judge.ensures _ c.in-Err.is _

@@ -8,7 +8,7 @@ use Rattle.point.proofs.Laws.Within.{accepted_within_lem}
 use Rattle.point.specs.declared.Point.{Point}
 use Rattle.side_filter.specs.Filter.{x_span_of, y_span_of, filter_by, difference_of, FilteredSays}
 use Rattle.side_filter.specs.declared.answer.Early.{Early}
-use Rattle.side_filter.proofs.Laws.Filter.{filter_answer, filter_sure, span_is, by_x, by_y, by_plus, by_minus, by_none}
+use Rattle.side_filter.proofs.Laws.Filter.{filter_answer, filter_sure, span_is}
 use Rattle.side_filter.proofs.filter.filtered.Goals as goal
 
 -- what owning a point tells: the format holds its coordinates
@@ -26,46 +26,6 @@ says p q r hp hq hr ex ey e =
           (accepted_within_lem _ hp.x hp.y P) (accepted_within_lem _ hq.x hq.y Q) (accepted_within_lem _ hr.x hr.y R) answer;
     }
 
-pub returns-then-x : goal.returns-then-x
-returns-then-x c =
-    let p = c.well_formed.0.1.1 in
-    let q = c.well_formed.1.0.1.1 in
-    let r = c.well_formed.1.1.0.1.1 in
-    says c.args.p c.args.q c.args.r (held _ p.0.1 p.1.0.1) (held _ q.0.1 q.1.0.1) (held _ r.0.1 r.1.0.1)
-    (span_is _ _ _ c.magnitude.ensures c.magnitude-2.ensures c.greater_of-x.ensures)
-    (span_is _ _ _ c.magnitude-3.ensures c.magnitude-4.ensures c.greater_of-y.ensures)
-    (by_x _ _ _ c.if-x.true)
-
-pub returns-then-y : goal.returns-then-y
-returns-then-y c =
-    let p = c.well_formed.0.1.1 in
-    let q = c.well_formed.1.0.1.1 in
-    let r = c.well_formed.1.1.0.1.1 in
-    says c.args.p c.args.q c.args.r (held _ p.0.1 p.1.0.1) (held _ q.0.1 q.1.0.1) (held _ r.0.1 r.1.0.1)
-    (span_is _ _ _ c.magnitude.ensures c.magnitude-2.ensures c.greater_of-x.ensures)
-    (span_is _ _ _ c.magnitude-3.ensures c.magnitude-4.ensures c.greater_of-y.ensures)
-    (by_y _ _ _ c.if-x.false c.if-y.true)
-
-pub returns-then-e-d : goal.returns-then-e-d
-returns-then-e-d c =
-    let p = c.well_formed.0.1.1 in
-    let q = c.well_formed.1.0.1.1 in
-    let r = c.well_formed.1.1.0.1.1 in
-    says c.args.p c.args.q c.args.r (held _ p.0.1 p.1.0.1) (held _ q.0.1 q.1.0.1) (held _ r.0.1 r.1.0.1)
-    (span_is _ _ _ c.magnitude.ensures c.magnitude-2.ensures c.greater_of-x.ensures)
-    (span_is _ _ _ c.magnitude-3.ensures c.magnitude-4.ensures c.greater_of-y.ensures)
-    (by_plus _ _ _ c.if-x.false c.if-y.false c.if-e-d.true)
-
-pub returns-then-d-e : goal.returns-then-d-e
-returns-then-d-e c =
-    let p = c.well_formed.0.1.1 in
-    let q = c.well_formed.1.0.1.1 in
-    let r = c.well_formed.1.1.0.1.1 in
-    says c.args.p c.args.q c.args.r (held _ p.0.1 p.1.0.1) (held _ q.0.1 q.1.0.1) (held _ r.0.1 r.1.0.1)
-    (span_is _ _ _ c.magnitude.ensures c.magnitude-2.ensures c.greater_of-x.ensures)
-    (span_is _ _ _ c.magnitude-3.ensures c.magnitude-4.ensures c.greater_of-y.ensures)
-    (by_minus _ _ _ c.if-x.false c.if-y.false c.if-e-d.false c.if-d-e.true)
-
 pub returns : goal.returns
 returns c =
     let p = c.well_formed.0.1.1 in
@@ -74,4 +34,4 @@ returns c =
     says c.args.p c.args.q c.args.r (held _ p.0.1 p.1.0.1) (held _ q.0.1 q.1.0.1) (held _ r.0.1 r.1.0.1)
     (span_is _ _ _ c.magnitude.ensures c.magnitude-2.ensures c.greater_of-x.ensures)
     (span_is _ _ _ c.magnitude-3.ensures c.magnitude-4.ensures c.greater_of-y.ensures)
-    (by_none _ _ _ c.if-x.false c.if-y.false c.if-e-d.false c.if-d-e.false)
+    c.told_by.ensures

@@ -1,29 +1,30 @@
--- `sum::measure::grain` meets its contract. The loop's invariant: g is the grain of the entries from index i on. The measure is i.
--- Assumes nothing.
-use mathlib.Core.Path.{ap, ap₂, ◌∙◌}
-use Prim.Native.Nat.{ℕ, ◌-◌, min}
-use lib.Arith.{le-zero}
-use lib.ListN.{drop}
-use borrow.Author.Rules.{rules}
+-- `sum::measure::grain` meets its contract. The loop's invariant: g is the grain of the entries behind those that are left. Assumes nothing.
+use Rattle.std.proofs.Common.{[], ◌∷◌, sym, ap, ap₂, ◌∙◌, min}
+use Rattle.std.proofs.Math.Nat.{min_comm}
+use Rattle.std.specs.Slice.Iter.{iter_rest}
+use Rattle.std.specs.Iterator.Adapters.{rev_source}
 use Rattle.sum.specs.Ceiling.{grain_of}
-use Rattle.sum.proofs.Laws.Grain.{finite_at, grain_end, grain_turn}
+use Rattle.sum.proofs.Laws.Backwards.{none_done, all_done, one_done, finite_left}
+use Rattle.sum.proofs.Laws.Grain.{grain_none, grain_cons}
 use Rattle.sum.proofs.measure.grain.Goals as goal
 
-pub loop-i-init : goal.loop-i-init
-loop-i-init c =
-    (search rules, grain_end c.args.list.now)
+pub loop-x-init : goal.loop-x-init
+loop-x-init c =
+    let source = ap rev_source c.into_iter-x-iterator.ensures.into_iter_gives ∙ c.rev-x-items.ensures.source in
+    ([], none_done (ap iter_rest source ∙ c.iter.ensures.rest), grain_none)
 
 pub twos-requires : goal.twos-requires
 twos-requires c =
-    finite_at c.args.list.now (c.loop-i.i - 1) c.requires (search rules)
+    let (done, whole, grain) = c.loop-x.invariant in
+    finite_left _ done _ (one_done _ _ c.in-Some.ensures.steps done whole) c.requires
 
-pub loop-i-preserved : goal.loop-i-preserved
-loop-i-preserved c =
-    let inv = c.loop-i.invariant in
-    let step = ap₂ (λ (a b : ℕ). min a b) c.twos.ensures inv.1 in
-    (search rules, c.least-g.ensures ∙ step ∙ grain_turn _ _ c.loop-i-test.true inv.0)
+pub loop-x-preserved : goal.loop-x-preserved
+loop-x-preserved c =
+    let (done, whole, grain) = c.loop-x.invariant in
+    let least = c.min-g.ensures ∙ min_comm _ _ ∙ ap₂ min c.twos.ensures grain ∙ sym (grain_cons _ done) in
+    (c.in-Some.x.now ∷ done, one_done _ _ c.in-Some.ensures.steps done whole, least)
 
 pub returns : goal.returns
 returns c =
-    let xs = c.args.list.now in
-    c.loop-i.invariant.1 ∙ ap (λ (k : ℕ). grain_of (drop k xs)) (le-zero c.loop-i-test.false)
+    let (done, whole, grain) = c.loop-x.invariant in
+    grain ∙ ap grain_of (all_done _ done whole c.in-None.ensures.steps.0)

@@ -1,13 +1,9 @@
--- `sum::measure::grain` meets its contract. The loop's invariant: g is the grain of the entries from index i on. The measure is i.
--- Assumes nothing.
-use mathlib.Core.Path.{◌≡◌}
-use Prim.Native.Nat.{◌≤◌}
-use lib.ListN.{length, drop}
+-- `sum::measure::grain` meets its contract. The loop's invariant: g is the grain of the entries behind those that are left. Assumes nothing.
+use Rattle.std.proofs.Common.{◌≡◌, List, ◌++◌, Float}
+use Rattle.std.specs.Slice.Iter.{iter_rest}
+use Rattle.std.specs.Iterator.Adapters.{rev_source}
 use Rattle.sum.specs.Ceiling.{grain_of}
 use Rattle.sum.proofs.measure.grain.Given as goal
 
-abbrev pub invariant-loop-i : goal.invariant-loop-i
-invariant-loop-i l = (l.i ≤ length l.list) × (l.g ≡ grain_of (drop l.i l.list))
-
-abbrev pub decreases-loop-i : goal.decreases-loop-i
-decreases-loop-i l = l.i
+abbrev pub invariant-loop-x : goal.invariant-loop-x
+invariant-loop-x l = (done : List Float) × (iter_rest (rev_source l.x-iterator) ++ done ≡ l.list) × (l.g ≡ grain_of done)

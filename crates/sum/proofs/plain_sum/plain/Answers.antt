@@ -22,20 +22,21 @@ use Rattle.sum.proofs.plain_sum.plain.Goals as goal
 pub returns-then-list-gt-LIMIT : goal.returns-then-list-gt-LIMIT
 unfolding plain_said plain_of
 returns-then-list-gt-LIMIT c =
-    let xs = c.args.list.now in sym (checked_long xs (sgn (total_of xs)) c.if-list-gt-LIMIT.true)
+    let xs = c.args.list.now in
+    rw c.refused.ensures (sym (checked_long xs (sgn (total_of xs)) c.if-list-gt-LIMIT.true))
 
 pub loop-i-init : goal.loop-i-init
 unfolding plain_of value_of
 loop-i-init c =
     let xs = c.args.list.now in
-    (refl, omega arith, sym (checked_short xs (sgn (total_of xs)) c.if-list-gt-LIMIT.false), held_start _ _ refl)
+    (refl, sym (checked_short xs (sgn (total_of xs)) c.if-list-gt-LIMIT.false), held_start _ _ refl)
 
 pub returns-then-not-add : goal.returns-then-not-add
 unfolding plain_said
 returns-then-not-add c =
     let here = c.loop-i in
     let none = add_finite _ _ _ _ here.invariant.0 c.add.ensures ∙ c.if-not-add.true in
-    sym (passing_here _ _ _ _ _ _ _ c.loop-i-test.true none) ∙ here.invariant.2
+    rw c.refused-then-not-add.ensures (sym (passing_here _ _ _ _ _ _ _ c.loop-i-test.true none) ∙ here.invariant.1)
 
 pub loop-i-preserved : goal.loop-i-preserved
 loop-i-preserved c =
@@ -43,12 +44,11 @@ loop-i-preserved c =
     let done = c.if-not-add.false in
     let there = add_finite _ _ _ _ here.invariant.0 c.add.ensures ∙ done in
     let entry : Real binary64 (get_or c.args.list.now here.i nan) =
-    record { fin = subst T (sym there) tt; fit = c.shared_slice_known-1.given here.i } in
+    record { fin = subst T (sym there) tt; fit = c.type_inv.list here.i } in
     let changes = add_changes _ _ _ _ here.invariant.0 c.add.ensures done entry in (
       c.add.auto.total ∙ here.invariant.0,
-      omega arith,
-      sym (passing_later _ _ _ _ _ _ _ c.loop-i-test.true there) ∙ here.invariant.2,
-      held_next _ _ _ _ c.loop-i-test.true entry here.invariant.0 changes here.invariant.3,
+      sym (passing_later _ _ _ _ _ _ _ c.loop-i-test.true there) ∙ here.invariant.1,
+      held_next _ _ _ _ c.loop-i-test.true entry here.invariant.0 changes here.invariant.2,
     )
 
 pub returns : goal.returns
@@ -57,6 +57,6 @@ returns c =
     let here = c.loop-i in
     let short : here.i ≤ limit = omega arith in
     ap (λ (s : Sign). answers (sign_number s)) c.sign_of.ensures.sign_is
-    ∙ ap answers (held_sign _ _ _ c.loop-i-test.false short c.sign_of.ensures.below here.invariant.3)
+    ∙ ap answers (held_sign _ _ _ c.loop-i-test.false short c.sign_of.ensures.below here.invariant.2)
     ∙ sym (passing_end _ _ _ _ _ _ c.loop-i-test.false)
-    ∙ here.invariant.2
+    ∙ here.invariant.1

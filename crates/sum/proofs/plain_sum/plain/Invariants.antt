@@ -1,5 +1,4 @@
 -- `sum::plain_sum::plain` meets its contract.
-use Prim.Native.Nat.{◌≤◌, ◌-◌}
 use mathlib.Core.Path.{◌≡◌}
 use lib.ListN.{length, drop}
 use Rattle.whole.specs.Sign.{sgn}
@@ -11,7 +10,5 @@ use Rattle.sum.proofs.Laws.Plain.{Held}
 use Rattle.sum.proofs.plain_sum.plain.Given as goal
 
 abbrev pub invariant-loop-i : goal.invariant-loop-i
-invariant-loop-i l = (length l.words ≡ count) × (l.i ≤ length l.list) × (checked_from l.i (drop l.i l.list) (sgn (total_of l.list)) ≡ plain_of l.list) × Held l.list l.i l.words
-
-abbrev pub decreases-loop-i : goal.decreases-loop-i
-decreases-loop-i l = length l.list - l.i
+invariant-loop-i l =
+    (length l.words ≡ count) × (checked_from l.i (drop l.i l.list) (sgn (total_of l.list)) ≡ plain_of l.list) × Held l.list l.i l.words

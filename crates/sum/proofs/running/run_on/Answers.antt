@@ -25,7 +25,7 @@ returns-then-budget-steps c =
 pub step-requires : goal.step-requires
 step-requires c =
     let v = verdict_is _ c.tallied-t.ensures c.look_at.ensures c.judged-v.ensures in
-    going_stepping c.loop-list.invariant c.tallied-t.ensures (sym v ∙ c.in-Undecided.is)
+    going_stepping c.loop-list.invariant c.tallied-t.ensures (sym v ∙ c.in-None.is)
 
 pub overflow_add-steps : goal.overflow_add-steps
 overflow_add-steps c =
@@ -38,5 +38,5 @@ loop-list-smaller c =
 pub loop-list-preserved : goal.loop-list-preserved
 loop-list-preserved c =
     let v = verdict_is _ c.tallied-t.ensures c.look_at.ensures c.judged-v.ensures in
-    let u = sym v ∙ c.in-Undecided.is in
+    let u = sym v ∙ c.in-None.is in
     rw c.step.ensures (going_step c.loop-list.invariant u c.if-budget-steps.false)

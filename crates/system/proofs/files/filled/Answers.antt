@@ -13,7 +13,8 @@ take_read : (n k room : ℕ) (buf read : List ℕ) → n ≤ length buf → k �
 take_read n k room buf read within fits =
     let before : take n (put_mid n room buf read) ≡ take n buf = take-put_mid_below _ _ _ _ _ (le_refl _) within in
     let after : take k (drop n (put_mid n room buf read)) ≡ take k read =
-    ap (take k) (drop_at (take n buf) (read ++ post_of n room buf) n (length-take-le n buf within)) ∙ take-append-le k read (post_of n room buf) fits in
+    ap (take k) (drop_at (take n buf) (read ++ post_of n room buf) n (length-take-le n buf within))
+    ∙ take-append-le k read (post_of n room buf) fits in
     take-add n k (put_mid n room buf read) ∙ ap (λ l. l ++ take k (drop n (put_mid n room buf read))) before ∙ ap (λ l. take n buf ++ l) after
 
 pub loop-n-preserved : goal.loop-n-preserved

@@ -20,17 +20,17 @@ returns-in_default c =
 pub put-requires : goal.put-requires
 put-requires c =
     let held : T (fits binary64 c.args.x) = subst T (sym c.well_formed.1.0.1) tt in
-    let parts_mean : Means c.args.x c.in-Apart.p = taken_means _ _ c.take_apart.ensures held _ c.in-Apart.is in
+    let parts_mean : Means c.args.x c.in-Ok.p = taken_means _ _ c.take_apart.ensures held _ c.in-Ok.is in
     let m = parts_mean in
     (c.if-total-ne-WORDS.false, (m.significand_range, m.exponent_range))
 
 pub returns : goal.returns
 returns c =
     let held : T (fits binary64 c.args.x) = subst T (sym c.well_formed.1.0.1) tt in
-    let parts_mean : Means c.args.x c.in-Apart.p = taken_means _ _ c.take_apart.ensures held _ c.in-Apart.is in
+    let parts_mean : Means c.args.x c.in-Ok.p = taken_means _ _ c.take_apart.ensures held _ c.in-Ok.is in
     let ws = c.args.total.now in
     let l = c.if-total-ne-WORDS.false in
-    let f : finite c.args.x ≡ true = taken_finite _ _ c.take_apart.ensures _ c.in-Apart.is in
+    let f : finite c.args.x ≡ true = taken_finite _ _ c.take_apart.ensures _ c.in-Ok.is in
     says_added ws _ c.args.x (addable_is ws c.args.x l ∙ f) (record { fin = subst T (sym f) tt; fit = held }) l
     c.put.auto.words
     (λ k h. (c.type_inv.total k).fits)

@@ -1,11 +1,10 @@
--- `total::words::carry` meets its contract. The loop's invariant: 1 is still to be added at word i, and that is 1 at the lowest.
--- Assumes nothing.
-use Rattle.std.proofs.Common.{◌≡◌, ◌+◌, ◌-◌, ◌^◌, ◌≤◌, length}
+-- `total::words::carry` meets its contract. The loop's invariant: 1 is still to be added, or taken away, at this word. Assumes nothing.
+use Rattle.std.proofs.Common.{◌≡◌, ◌+◌, ◌*◌, ◌^◌}
 use Rattle.total.specs.Words.{base, value_of}
+use Rattle.total.specs.Parts.{one_adds, one_takes}
 use Rattle.total.proofs.words.carry.Given as goal
 
-abbrev pub invariant-loop-i : goal.invariant-loop-i
-invariant-loop-i l = (length l.words ≡ length l.initial.words) × (l.i ≤ length l.initial.words) × (value_of base l.words + base ^ l.i ≡ value_of base l.initial.words + 1)
-
-abbrev pub decreases-loop-i : goal.decreases-loop-i
-decreases-loop-i l = length l.initial.words - l.i
+abbrev pub invariant-loop-word : goal.invariant-loop-word
+invariant-loop-word l =
+    value_of base l.words + one_takes l.takes + base ^ l.word-index * one_adds l.takes
+    ≡ value_of base l.initial.words + one_adds l.takes + base ^ l.word-index * one_takes l.takes

@@ -1,6 +1,5 @@
 -- The length is judged first, and the rest is what `geometry::zone` promises.
 use Rattle.std.proofs.Common.{◌∙◌}
-use Rattle.geometry.proofs.Laws.Outcomes.{zone_refusal}
 use Rattle.viewer.proofs.Laws.Entries.{zone_entry_odd, zone_entry_few, zone_entry_many, zone_entry_place, zone_entry_refused}
 use Rattle.viewer.proofs.zone.ghomxarin_zone.Goals as goal
 
@@ -14,15 +13,12 @@ pub returns-then-n-gt-MOST : goal.returns-then-n-gt-MOST
 returns-then-n-gt-MOST c =
     c.refusal_answer-then-n-gt-MOST.ensures ∙ zone_entry_many _ _ _ c.if-corners-ne0.false c.if-n-lt-FEWEST.false c.if-n-gt-MOST.true
 
-pub refusal_answer-requires-in-Refused : goal.refusal_answer-requires-in-Refused
-refusal_answer-requires-in-Refused c = zone_refusal _ _ _ c.in-Refused.ensures
-
-pub returns-in-At : goal.returns-in-At
-returns-in-At c =
+pub returns-in-Ok : goal.returns-in-Ok
+returns-in-Ok c =
     c.place_answer.ensures
-    ∙ zone_entry_place _ _ _ c.if-corners-ne0.false _ _ c.point_of.ensures c.decode.ensures _ c.in-At.ensures
+    ∙ zone_entry_place _ _ _ c.if-corners-ne0.false _ _ c.point_of.ensures c.decode.ensures _ c.in-Ok.ensures
 
-pub returns-in-Refused : goal.returns-in-Refused
-returns-in-Refused c =
-    c.refusal_answer-in-Refused.ensures
-    ∙ zone_entry_refused _ _ _ c.if-corners-ne0.false _ _ c.point_of.ensures c.decode.ensures _ c.in-Refused.ensures
+pub returns-in-Err : goal.returns-in-Err
+returns-in-Err c =
+    c.refusal_answer-in-Err.ensures
+    ∙ zone_entry_refused _ _ _ c.if-corners-ne0.false _ _ c.point_of.ensures c.decode.ensures _ c.in-Err.ensures
