@@ -1,8 +1,9 @@
 // Why a question has no answer, and what is replied then.
-use crate::reply::Reply;
+use crate::out::{Failed, Out};
 use crate::word::Word;
 use crease::answer::ZoneRefusal;
 use refusal::Refusal;
+use std::io::{Eprint, Print};
 
 #[derive(Clone, Copy)]
 pub enum Fault {
@@ -10,6 +11,29 @@ pub enum Fault {
     Unclear,
     Refused(Refusal),
     ZoneRefused(ZoneRefusal),
+    // It has one, and a write of it failed.
+    Failed,
+}
+
+impl Fault {
+    // The zone's number stands behind the place.
+    pub fn put<R: Print + Eprint>(self, out: &mut Out<R>) -> Result<(), Failed> {
+        match self {
+            Fault::Unclear => out.put_first(Word::Unclear),
+            Fault::Refused(r) => refused(r, out),
+            Fault::ZoneRefused(r) => {
+                refused(r.refusal, out)?;
+                out.put_number(r.zone as u64)
+            }
+            Fault::Failed => Err(Failed),
+        }
+    }
+}
+
+fn refused<R: Print + Eprint>(r: Refusal, out: &mut Out<R>) -> Result<(), Failed> {
+    out.put_first(Word::Refused)?;
+    out.put_number(r.kind.number() as u64)?;
+    out.put_number(r.place as u64)
 }
 
 impl From<Refusal> for Fault {
@@ -24,19 +48,8 @@ impl From<ZoneRefusal> for Fault {
     }
 }
 
-impl From<Fault> for Reply {
-    // The zone's number stands behind the place.
-    fn from(fault: Fault) -> Reply {
-        match fault {
-            Fault::Unclear => Reply::of(Word::Unclear),
-            Fault::Refused(r) => refused(r),
-            Fault::ZoneRefused(r) => refused(r.refusal).number(r.zone as u64),
-        }
+impl From<Failed> for Fault {
+    fn from(_: Failed) -> Fault {
+        Fault::Failed
     }
-}
-
-fn refused(r: Refusal) -> Reply {
-    Reply::of(Word::Refused)
-        .number(r.kind.number() as u64)
-        .number(r.place as u64)
 }

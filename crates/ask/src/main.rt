@@ -11,7 +11,6 @@ mod part;
 mod planes;
 mod plans;
 mod reasons;
-mod reply;
 mod sides;
 mod sums;
 mod tracks;
@@ -84,10 +83,10 @@ impl<'a, R: Print + Eprint> Tool<'a, R> {
         if let Some(found) = end.found {
             self.held.hold(found);
         }
-        let reply = answer::answer(end.to, &mut self.held);
         self.line = Line::Empty;
+        answer::answer(end.to, &mut self.held, &mut self.out)?;
         self.held.taken = 0;
-        self.out.put_reply(reply, &self.held)
+        self.out.put(b'\n')
     }
 
     // The last line, where it has no line end.

@@ -1,12 +1,13 @@
 // The answer of `meeting` on a path piece and a crease.
 use crate::fault::Fault;
-use crate::reply::Reply;
+use crate::out::Out;
 use crate::sides::point;
 use crate::word::Word;
 use meeting::answer::{Meeting, Piece};
+use std::io::{Eprint, Print};
 
 // meet D D D D D D D D: how the path piece and the crease meet.
-pub fn meet(list: &[f64]) -> Result<Reply, Fault> {
+pub fn meet<R: Print + Eprint>(list: &[f64], out: &mut Out<R>) -> Result<(), Fault> {
     let ([p, q, a, b], []) = list.as_chunks() else {
         return Err(Fault::Unclear);
     };
@@ -19,7 +20,8 @@ pub fn meet(list: &[f64]) -> Result<Reply, Fault> {
         to: point(b),
     };
     let meeting = meeting::meet(path, crease)?;
-    Ok(Reply::of(Word::Meet).word(meeting.into()))
+    out.put_first(Word::Meet)?;
+    Ok(out.put_word(meeting.into())?)
 }
 
 impl From<Meeting> for Word {

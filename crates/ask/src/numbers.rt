@@ -1,18 +1,17 @@
 // The answers of `double`.
 use crate::fault::Fault;
-use crate::reply::Reply;
+use crate::out::Out;
 use crate::word::Word;
+use std::io::{Eprint, Print};
 
 // apart D: sign bit, significand and exponent.
-pub fn apart(list: &[f64]) -> Result<Reply, Fault> {
+pub fn apart<R: Print + Eprint>(list: &[f64], out: &mut Out<R>) -> Result<(), Fault> {
     let [x] = *list else {
         return Err(Fault::Unclear);
     };
     let parts = double::take_apart(x)?;
-    Ok(
-        Reply::of(Word::Apart)
-            .number(parts.negative as u64)
-            .number(parts.significand)
-            .number(parts.exponent as u64),
-    )
+    out.put_first(Word::Apart)?;
+    out.put_number(parts.negative as u64)?;
+    out.put_number(parts.significand)?;
+    Ok(out.put_number(parts.exponent as u64)?)
 }

@@ -1,9 +1,6 @@
 // The answers on their way out.
 ghost use Rattle.std.specs.Prelude.{◌≡◌, ◌≤◌, OnOk};
 
-use crate::held::Held;
-use crate::part::first;
-use crate::reply::{Part, Reply};
 use crate::word::Word;
 use std::io::{Eprint, Print};
 use word64::magnitude;
@@ -51,26 +48,9 @@ impl<'a, R: Print + Eprint> Out<'a, R> {
         Ok(())
     }
 
-    // The answer line of a reply, whose doubles and bytes are the first that are held.
-    pub fn put_reply(&mut self, reply: Reply, held: &Held) -> Result<(), Failed> {
-        if let Some(word) = reply.first {
-            self.put_text(word.text())?;
-        }
-        for part in reply.parts.iter().flatten() {
-            self.put_part(*part, held)?;
-        }
-        self.put(b'\n')
-    }
-
-    fn put_part(&mut self, part: Part, held: &Held) -> Result<(), Failed> {
-        match part {
-            Part::Word(word) => self.put_word(word),
-            Part::Number(n) => self.put_number(n),
-            Part::Signed(n) => self.put_signed(n),
-            Part::Doubles(n) => self.put_doubles(first(&held.list, n)),
-            Part::Bytes(n) => self.put_bytes(first(&held.bytes, n)),
-            Part::Entries(n) => self.put_entries(first(&held.bytes, n)),
-        }
+    // The word that an answer begins with.
+    pub fn put_first(&mut self, word: Word) -> Result<(), Failed> {
+        self.put_text(word.text())
     }
 
     fn put_text(&mut self, text: &[u8]) -> Result<(), Failed> {
@@ -81,19 +61,25 @@ impl<'a, R: Print + Eprint> Out<'a, R> {
     }
 
     // A word after a space.
-    fn put_word(&mut self, word: Word) -> Result<(), Failed> {
+    pub fn put_word(&mut self, word: Word) -> Result<(), Failed> {
         self.put(b' ')?;
         self.put_text(word.text())
     }
 
+    // A word, and the number that it is of.
+    pub fn put_named(&mut self, word: Word, n: u64) -> Result<(), Failed> {
+        self.put_word(word)?;
+        self.put_number(n)
+    }
+
     // A number in decimal, after a space.
-    fn put_number(&mut self, n: u64) -> Result<(), Failed> {
+    pub fn put_number(&mut self, n: u64) -> Result<(), Failed> {
         self.put(b' ')?;
         self.put_decimal(n)
     }
 
     // The same, with a minus sign where it is below 0.
-    fn put_signed(&mut self, n: i64) -> Result<(), Failed> {
+    pub fn put_signed(&mut self, n: i64) -> Result<(), Failed> {
         self.put(b' ')?;
         if n < 0 {
             self.put(b'-')?;
@@ -115,7 +101,7 @@ impl<'a, R: Print + Eprint> Out<'a, R> {
     }
 
     // A list of doubles, each as its 16 hexadecimal digits after a space.
-    fn put_doubles(&mut self, list: &[f64]) -> Result<(), Failed> {
+    pub fn put_doubles(&mut self, list: &[f64]) -> Result<(), Failed> {
         for x in list {
             self.put(b' ')?;
             self.put_hex(double::to_pattern(*x), 16)?;
@@ -124,7 +110,7 @@ impl<'a, R: Print + Eprint> Out<'a, R> {
     }
 
     // Bytes as two hexadecimal digits each, after one space.
-    fn put_bytes(&mut self, bytes: &[u8]) -> Result<(), Failed> {
+    pub fn put_bytes(&mut self, bytes: &[u8]) -> Result<(), Failed> {
         if bytes.is_empty() {
             return Ok(());
         }
@@ -136,7 +122,7 @@ impl<'a, R: Print + Eprint> Out<'a, R> {
     }
 
     // Edges that count, each with its turn.
-    fn put_entries(&mut self, entries: &[u8]) -> Result<(), Failed> {
+    pub fn put_entries(&mut self, entries: &[u8]) -> Result<(), Failed> {
         for entry in entries {
             self.put_number((*entry / 2) as u64)?;
             let turn = if *entry % 2 == 0 {

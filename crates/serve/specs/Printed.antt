@@ -1,6 +1,6 @@
 -- The desk's whole output, from what could be read of its two files: Desk 2 to 6 of docs/RULES.md. That these are the bytes which the system
 -- gave, and that the text is what it was handed, no contract can say (docs/GAPS.md).
-use Rattle.std.specs.Prelude.{ℕ, Bool, true, false, List, Float, None, Some}
+use Rattle.std.specs.Prelude.{ℕ, Bool, true, false, List, take, Float, None, Some}
 use Rattle.std.specs.Option.{option_copied}
 use Rattle.std.specs.declared.option.Option.{Option}
 use Rattle.refusal.specs.Outcome.{Outcome, answers, refuses}
@@ -10,7 +10,11 @@ use Rattle.report.specs.Report.{refused_zone, of_releases, releases_of}
 use Rattle.serve.specs.Text.{ascii, text_of}
 use Rattle.serve.specs.declared.files.TwoFiles.{TwoFiles}
 
--- Of a file there is what could be read: some bytes, or none at all where it can not be opened or reading it failed.
+-- Of a file there is what could be read: some bytes, or none at all where it can not be opened or reading it failed. By the buffer that it was
+-- read into, and how many bytes of it were read:
+abbrev pub found : Option ℕ → List ℕ → Option (List ℕ)
+found (Some n) buffer = Some (take n buffer)
+found None buffer = None
 
 -- Desk 4 to 6: of the releases in a good zone
 abbrev pub releases_printed : Option (List ℕ) → List Float → List ℕ

@@ -1,9 +1,10 @@
 // Room for the bytes of a file, and what was found of the two files.
+ghost use Rattle.std.specs.Option.{option_copied};
 ghost use Rattle.std.specs.Prelude.{◌≡◌, ◌+◌, length};
+ghost use Rattle.system.specs.Moved.{IsWithin};
 ghost use Rattle.track.specs.File.{most_bytes};
+ghost use Rattle.serve.specs.Printed.{found};
 
-use std::fs::Files;
-use system::files::bytes_of;
 use track::limit::BYTES;
 
 // Bytes that are asked for of a file: one more than the longest has, and more can not alter the first refusal.
@@ -15,10 +16,12 @@ pub fn room() -> [u8; FILE]
     [0; FILE]
 }
 
-// The bytes of a file of the working folder, in lent memory; none where it can't be read.
-pub fn file_of<'b, R: Files>(rt: &R, name: &str, room: &'b mut [u8]) -> Option<&'b [u8]> {
-    let n = bytes_of(rt, name, room)?;
-    Some(&room[..n])
+// The bytes of a file, by what `system::bytes_of` said of the room that it read them to; none where it could not.
+pub fn file_in(room: &[u8], read: Option<usize>) -> Option<&[u8]>
+    requires { IsWithin read room.now }
+    ensures { option_copied result ≡ found read room.now }
+{
+    Some(&room[..read?])
 }
 
 // The bytes of each file; none where it could not be read, or was not opened.

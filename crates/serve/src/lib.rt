@@ -15,11 +15,12 @@ ghost use Rattle.serve.specs.Printed.{printed_of, is_good};
 ghost use Rattle.serve.specs.Reasons.{reason_line, explained_of};
 ghost use Rattle.serve.specs.Parts.{Explains};
 
-use files::{TwoFiles, file_of};
+use files::{TwoFiles, file_in};
 use point::Point;
 use points::points_of;
 use std::fs::Files;
 use std::io::{Eprint, Print};
+use system::files::bytes_of;
 use text::Text;
 use track::limit::COORDINATES;
 
@@ -38,10 +39,12 @@ fn read_then<R: Files + Print + Eprint, F: FnOnce(TwoFiles)>(rt: &R, then: F)
     requires { (files : TwoFiles) → is_good (option_copied files.zone) ≡ true → F.pre then files }
 {
     let mut room = files::room();
-    let zone = file_of(rt, "zone.trk", &mut room);
+    let read = bytes_of(rt, "zone.trk", &mut room);
+    let zone = file_in(&room, read);
     if text::is_good(zone) {
         let mut room = files::room();
-        let releases = file_of(rt, "release.trk", &mut room);
+        let read = bytes_of(rt, "release.trk", &mut room);
+        let releases = file_in(&room, read);
         return then(TwoFiles { zone, releases });
     }
     unopened(rt, zone)

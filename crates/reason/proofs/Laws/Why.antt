@@ -181,10 +181,10 @@ module _ (xs : List Float) (p : Point) where
           (omega (arith, counted_few)) (omega (arith, counted_few)) (omega (arith, counted_few)) (omega (arith, counted_few)) says
           ∙ ap₂ (λ (u d : ℕ). pos u -ℤ pos d) l.ups l.downs
 
-      pub counted_says : (lent : List ℕ) (d : ℤ) → SignedDifferenceSays c.ups c.downs d → (entries left : List ℕ)
+      pub counted_as : (lent : List ℕ) (d : ℤ) → SignedDifferenceSays c.ups c.downs d → (entries left : List ℕ)
           → entries ≡ take (c.ups + c.downs) c.entries → length entries ≤ length lent → left ≡ entries ++ drop (length entries) lent
           → CountedSays xs p lent (Ok (record { total = again d; entries = length entries })) left
-      counted_says lent d says entries left are fits stands =
+      counted_as lent d says entries left are fits stands =
           let same : entries ≡ codes_in xs p = are ∙ l.stand in
           let found : ℤ → ℕ → Counted = λ t n. record { total = t; entries = n } in (
             ap₂ found (total_again c.ups c.downs d says ∙ total_is d says) (ap length same),
@@ -228,3 +228,18 @@ module _ (xs : List Float) (p : Point) where
       placed_says lent (Err r) left (is, short, stay) =
           rw (stay, is)
           (tells_refused lent (record { kind = NoRoom; place = 0 }) (why_short (length lent) (place_in xs p) answered (omega (arith, needed))))
+
+      -- the counts that were found with the edges are what is answered, whole
+      module _ (c : Listed) (l : ListedSays xs p c) where
+        abbrev put : List ℕ
+        put = take (c.ups + c.downs) c.entries
+
+        put_many : length put ≡ c.ups + c.downs
+        put_many = ap length l.stand ∙ many c l
+
+        pub counted_says : (lent : List ℕ) (d : ℤ) → SignedDifferenceSays c.ups c.downs d → c.ups + c.downs ≤ length lent → (left : List ℕ)
+            → left ≡ put ++ drop (length put) lent → (t : Bool) → b ≡ t
+            → WhySays xs p lent (Ok (why_by t (record { total = again d; entries = c.ups + c.downs }))) left
+        counted_says lent d says fits left stands t same =
+            rw (← same, ← put_many)
+            (placed_says lent (Ok (record { total = again d; entries = length put })) left (counted_as c l lent d says put left refl (omega (arith, put_many)) stands))
