@@ -7,7 +7,7 @@ use crate::{meetings, numbers, planes, plans, reasons, sides, sums, tracks};
 use line::answer::{Asked, Question, Word};
 use std::io::{Eprint, Print};
 
-// Puts the reply to what a line asks, with the numbers that are held: its answer, of which nothing is put before it is whole, or why it has none.
+// Puts the reply to what a line asks, with the numbers that are held: its answer, or why it has none. (Nothing is put before that is known.)
 pub fn answer<R: Print + Eprint>(
     asked: Asked,
     held: &mut Held,
