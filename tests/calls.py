@@ -75,6 +75,10 @@ class Call:
         kinds = [kind for kind, _, _ in self.clauses]
         return self.clauses[0][1:] if kinds == ["ensures"] else None
 
+    def promised(self):
+        """Where it cites its promise: in its one ensures, or in the ghost member that its trait has for that."""
+        return self.gives.span(1) if self.gives and not self.clauses else self.ensured()
+
     def promise(self):
         """The promise that its contract cites, as it has to."""
         if self.requires():
@@ -180,7 +184,7 @@ def methods_of(crate, paths, types):
                 raise Wrong(f"{path}: tests/calls.py does not find the type of `impl {name}`")
             if name in types and declared[path].get(name, True):
                 methods = METHOD.finditer(text, *impl.span(3))
-                gives = GIVES.search(impl[3]) if trait else None
+                gives = GIVES.search(text, *impl.span(3)) if trait else None
                 yield from (Call(crate, path, method, text, f"{name}::", gives) for method in methods if trait or method[1])
 
 

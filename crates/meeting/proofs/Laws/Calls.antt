@@ -82,6 +82,7 @@ module _ (a b : Piece) (w : Meeting) (h : MeetSays a b (Ok w)) where
 
 -- ---- no two results satisfy the promise
 pub meet_fixed : (a b : Piece) → Fixes (λ (m : Result Meeting Refusal). MeetSays a b m)
-meet_fixed a b (Ok v) (Ok w) h k = ap Ok ((meet_iff a b v h w).1 k.word)
+meet_fixed a b (Ok v) (Ok w) h k =
+    ap Ok (word_once v w (one_word (edge_of a) (edge_of b) (meeting_said v) (meeting_said w) h.word k.word))
 meet_fixed a b (Ok v) (Err g) h k = no_refusal (k.judged ∙ sym h.judged)
 meet_fixed a b (Err f) m h k = sym (outcome_refused (λ _. tt) m f (k.judged ∙ sym h.judged))
