@@ -11,6 +11,7 @@ use refusal::{Kind, Refusal, refused};
 const INFINITE: u64 = 0x7FF0_0000_0000_0000;
 
 // The coordinate of a pattern whose number begins at `start` and ends before `next`.
+#[tactic(auto, using(crate::proofs::Laws::Coordinate::judging))]
 fn judged(pattern: u64, start: usize, next: usize) -> Result<Coordinate, Refusal>
     ensures { heard result ≡ judged_of pattern start next }
 {

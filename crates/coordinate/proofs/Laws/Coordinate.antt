@@ -47,6 +47,9 @@ module _ (p start next : ℕ) where
       let above : nan_bits binary64 p ≡ true = nan_bits_above binary64 p ∙ lt-ltb (ones binary64 * hid binary64) (p % top binary64) h in
       judged_refused (nan_refused (of_bits binary64 p) (sym (nan_bits_is binary64 p) ∙ above))
 
+-- what `judged` is proved by, at each of its exits
+pub ruleset judging = (pattern_number, judged_accepted, judged_refused, judged_nan)
+
 -- ---- a number judged
 -- 6 or 7, then 3
 abbrev pub is_coordinates : ℕ → Bool

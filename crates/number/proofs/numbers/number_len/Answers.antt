@@ -1,5 +1,4 @@
 -- `number::numbers::number_len` meets its contract: a byte for each seven bits up to the top one. Assumes nothing.
-use mathlib.Core.Path.{sym}
 use native.Mathlib.Omega.{arith}
 use Rattle.number.proofs.Laws.Written.{written_by_bits}
 use Rattle.number.proofs.numbers.number_len.Goals as goal
@@ -7,4 +6,4 @@ use Rattle.number.proofs.numbers.number_len.Goals as goal
 pub returns : goal.returns
 returns c =
     let top = c.ilog2.ensures in
-    sym (written_by_bits _ _ top.bound (omega arith) (omega arith))
+    omega (arith, written_by_bits c.args.value c.ilog2.result top.bound (omega arith) (omega arith))
