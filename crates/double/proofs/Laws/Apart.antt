@@ -10,7 +10,7 @@ use native.Mathlib.Omega.{arith}
 use lib.Dec.{T, leb}
 use lib.IntN.{ℤ, pos, neg_ℤ}
 use lib.Pow.{pow_pos, pow-add}
-use lib.Ieee.{Float, nan, inf, fin, binary64, size, to_bits, fits, is_nan}
+use lib.Ieee.{Float, nan, inf, fin, binary64, size, to_bits, fits}
 use lib.Ieee.Digits.{size_reaches, size-le}
 use lib.Ieee.Fits.{kept-lt}
 use lib.Ieee.Scale.{finite, overflow}
@@ -19,6 +19,7 @@ use Rattle.double.specs.Worth.{mag, worth, of_units}
 use Rattle.refusal.specs.Outcome.{Outcome, answers, refuses, not_finite, Fixes, kind_number}
 use Rattle.double.specs.Apart.{said, apart_of, TakenSays, exponent_of, significand_of, together}
 use Rattle.double.proofs.Laws.Digits.{Rep}
+use Rattle.double.proofs.Laws.Pattern.{finite_std}
 use Rattle.double.proofs.Laws.Units.{Real, mag_lt, mag_rep, of_units_own}
 use Rattle.refusal.proofs.Laws.Outcome.{outcome_once}
 use Rattle.refusal.specs.declared.Refusal.{Refusal}
@@ -86,17 +87,7 @@ finite_shows s m e t =
     let r : Real binary64 (fin s m e) = record { fin = tt; fit = t } in
     shows s (exponent_of n) (significand_of n) (exponent_most n (mag_lt binary64 (fin s m e) r)) (significand_below n) (exponent_least n)
 
--- an infinity's field is all ones
-infinite_field : (s : Bool) → to_bits binary64 (inf s) % 2 ^ 63 / 2 ^ 52 ≡ 2047
-unfolding to_bits
-infinite_field true = refl
-infinite_field false = refl
-
 module _ {s : Bool} {k q b : ℕ} (shown : Shows s k q b) where
-  -- its field is not that of the infinities
-  not_infinite : b % 2 ^ 63 / 2 ^ 52 ≡ 2047 → ⊥
-  not_infinite h = omega arith
-
   -- field 0: the digits are the significand
   hidden_none : b % 2 ^ 63 / 2 ^ 52 ≡ 0 → (b % 2 ^ 52 ≡ q) × (0 ≡ k)
   hidden_none h = (omega arith, omega arith)
@@ -122,24 +113,6 @@ refusal = refuses not_finite 0
 abbrev parts : Float → ℕ → ℕ → Outcome Parts
 parts x q k = answers (record { negative = leb (2 ^ 63) (to_bits binary64 x); significand = q; exponent = k })
 
--- which doubles are finite, by the tests of the code
-pub nan_infinite : (x : Float) → is_nan x ≡ true → finite x ≡ false
-unfolding is_nan
-nan_infinite nan h = refl
-nan_infinite (inf s) h = refl
-nan_infinite (fin s m e) h = absurd (subst T (sym h) tt)
-
-pub ones_infinite : (x : Float) → T (fits binary64 x) → field x ≡ 2047 → finite x ≡ false
-ones_infinite nan t h = refl
-ones_infinite (inf s) t h = refl
-ones_infinite (fin s m e) t h = absurd (not_infinite (finite_shows s m e t) h)
-
-pub others_finite : (x : Float) → is_nan x ≡ false → (field x ≡ 2047 → ⊥) → finite x ≡ true
-unfolding is_nan
-others_finite nan n g = absurd (subst T n tt)
-others_finite (inf s) n g = absurd (g (infinite_field s))
-others_finite (fin s m e) n g = refl
-
 pub refused : (x : Float) → finite x ≡ false → refusal ≡ apart_of x
 unfolding apart_of
 refused nan h = refl
@@ -163,6 +136,12 @@ normal_parted (fin s m e) r h =
     let p = finite_shows s m e r.fit in
     let q = hidden_one p h in
     cc (p.sign_is, q.0, q.1)
+
+-- what `take_apart` is proved by, at each of its exits
+pub finite_real : (x : Float) → finite x ≡ true → fits binary64 x ≡ true → Real binary64 x
+finite_real x h f = record { fin = subst T (sym h) tt; fit = subst T (sym f) tt }
+
+pub ruleset parting = (finite_std, finite_real, refused, subnormal_parted, normal_parted)
 
 -- a finite double by its field: whether there is a hidden bit tells both parts
 abbrev pub Hides : Float → ℕ → Type 0
