@@ -10,7 +10,7 @@ use native.Mathlib.Omega.{arith}
 use lib.Dec.{T, leb}
 use lib.IntN.{ℤ, pos, neg_ℤ}
 use lib.Pow.{pow_pos, pow-add}
-use lib.Ieee.{Float, nan, inf, fin, binary64, size, to_bits, fits}
+use lib.Ieee.{Float, nan, inf, fin, binary64, size, to_bits, fits, is_nan}
 use lib.Ieee.Digits.{size_reaches, size-le}
 use lib.Ieee.Fits.{kept-lt}
 use lib.Ieee.Scale.{finite, overflow}
@@ -137,11 +137,23 @@ normal_parted (fin s m e) r h =
     let q = hidden_one p h in
     cc (p.sign_is, q.0, q.1)
 
--- what `take_apart` is proved by, at each of its exits
+-- field 0 is no infinity's, whose field is all ones
+infinite_field : (s : Bool) → to_bits binary64 (inf s) % 2 ^ 63 / 2 ^ 52 ≡ 2047
+unfolding to_bits
+infinite_field true = refl
+infinite_field false = refl
+
+pub low_finite : (x : Float) → is_nan x ≡ false → field x ≡ 0 → finite x ≡ true
+unfolding is_nan
+low_finite nan n z = absurd (subst T n tt)
+low_finite (inf s) n z = let ones = infinite_field s in absurd (omega arith)
+low_finite (fin s m e) n z = refl
+
 pub finite_real : (x : Float) → finite x ≡ true → fits binary64 x ≡ true → Real binary64 x
 finite_real x h f = record { fin = subst T (sym h) tt; fit = subst T (sym f) tt }
 
-pub ruleset parting = (finite_std, finite_real, refused, subnormal_parted, normal_parted)
+-- what `take_apart` is proved by, at each of its exits
+pub ruleset parting = (finite_std, finite_real, low_finite, refused, subnormal_parted, normal_parted)
 
 -- a finite double by its field: whether there is a hidden bit tells both parts
 abbrev pub Hides : Float → ℕ → Type 0
