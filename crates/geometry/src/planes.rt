@@ -23,7 +23,7 @@ fn summed(p: HighPoint, q: HighPoint, r: HighPoint, s: HighPoint) -> Signed
 }
 
 // On which side of the plane through p, q and r the ball s is, or refusal 3 at the first coordinate that is not accepted.
-// As for a side, an exit of its own for a coordinate is proved, or refused, by the rule.
+// The tactics are there for what a side's are.
 #[tactic(auto, unfolding(crate::specs::Plane::plane_said, crate::specs::Plane::plane_of, refusal::specs::Search::passing_from))]
 pub fn plane(p: HighPoint, q: HighPoint, r: HighPoint, s: HighPoint) -> Result<Signed, Refusal>
     ensures { PlaneSays p q r s result }

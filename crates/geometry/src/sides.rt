@@ -8,7 +8,7 @@ use refusal::Refusal;
 use sum::answer::Sign;
 
 // The side of r against the line from p to q, or refusal 3 at the first coordinate that is not accepted.
-// An exit of its own for a coordinate is proved, or refused, by the rule.
+// The tactics prove an exit that has no answer from the rule itself, so that a wrong edit's falls for its place alone.
 #[tactic(auto, unfolding(crate::specs::Side::said, crate::specs::Side::side_of, refusal::specs::Search::passing_from))]
 pub fn side(p: Point, q: Point, r: Point) -> Result<Turn, Refusal>
     ensures { SideSays p q r result }
